@@ -1,0 +1,77 @@
+// Floats as the link's figures use them. Each contract is an equation with a definition of specs/.
+ghost use mathlib.Core.Path.{_≡_};
+ghost use lib.Ieee as Ieee;
+ghost use lib.Ieee.{binary64};
+ghost use Rattle.floats.specs.Operations.{inRange, clamped, step, one-quarter, one-thirty-second, complement, rounded-quotient};
+
+// --- Ranges ---
+
+// From lo to hi. No NaN passes.
+pub fn in_range(x: f64, lo: f64, hi: f64) -> bool
+    ensures { λ r. ⌜ r ≡ inRange lo hi x ⌝ }
+{
+    (lo <= x) & (x <= hi)
+}
+
+// Rust's `clamp`, for any ends. A NaN stays one.
+pub fn clamp(x: f64, lo: f64, hi: f64) -> f64
+    ensures { λ r. ⌜ r ≡ clamped lo hi x ⌝ }
+{
+    if x < lo {
+        return lo;
+    }
+    if x > hi {
+        return hi;
+    }
+    x
+}
+
+// --- Steps ---
+
+// The short trend s moved by the sample x.
+pub fn short_step(s: f64, x: f64) -> f64
+    ensures { λ r. ⌜ r ≡ step binary64 one-quarter s x ⌝ }
+{
+    s + limits::EWMA_SHORT_ALPHA * (x - s)
+}
+
+// The long trend s moved by the sample x.
+pub fn long_step(s: f64, x: f64) -> f64
+    ensures { λ r. ⌜ r ≡ step binary64 one-thirty-second s x ⌝ }
+{
+    s + limits::EWMA_LONG_ALPHA * (x - s)
+}
+
+// --- Ratios ---
+
+// The loss beside a delivery ratio.
+pub fn one_minus(x: f64) -> f64
+    ensures { λ r. ⌜ r ≡ complement binary64 x ⌝ }
+{
+    1.0 - x
+}
+
+// Rust's `a as f64 / b as f64`.
+pub fn quotient(a: u64, b: u64) -> f64
+    ensures { λ r. ⌜ r ≡ rounded-quotient binary64 a b ⌝ }
+{
+    std::num::nearest_u64_to_f64(a) / std::num::nearest_u64_to_f64(b)
+}
+
+// --- Casts ---
+
+// Rust's `x as i32`: cut toward zero, an end of the range where x is beyond it, and 0 for a NaN.
+pub fn to_i32(x: f64) -> i32
+    ensures { λ r. ⌜ r ≡ Ieee.toSigned 31 x ⌝ }
+{
+    if x >= 2147483647.0 {
+        return 2147483647;
+    }
+    if x <= -2147483648.0 {
+        return -2147483648;
+    }
+    if x > -2147483648.0 {
+        return std::num::truncating_f64_to_i64(x) as i32;
+    }
+    0
+}

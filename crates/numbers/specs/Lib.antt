@@ -1,0 +1,5 @@
+pub mod Bounds
+pub mod RoundTrip
+pub mod Jitter
+pub mod Signs
+pub mod Intervals

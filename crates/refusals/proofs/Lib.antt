@@ -1,0 +1,3 @@
+pub mod PickedByTest
+pub mod FirstNoFound
+mod RoomLeft

@@ -1,0 +1,12 @@
+-- Which case a test picks: a chain of these proves a return under several tests.
+-- Assumes nothing.
+use mathlib.Core.Path.{_≡_, sym}
+use mathlib.Core.Bool.{Bool, true, false, cond, true≢false}
+
+pub yes : {A : Type 0} {b : Bool} {x z : A} (y : A) → b ≡ true → z ≡ x → z ≡ cond b x y
+yes {b = true} y taken e = e
+yes {b = false} y taken e = absurd (true≢false (sym taken))
+
+pub no : {A : Type 0} {b : Bool} {y z : A} (x : A) → b ≡ false → z ≡ y → z ≡ cond b x y
+no {b = true} x left e = absurd (true≢false left)
+no {b = false} x left e = e

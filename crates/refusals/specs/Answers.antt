@@ -1,0 +1,29 @@
+-- What an accessor answers: document 01, the checks, "other result fields are zero, no or none". Definitions only.
+use mathlib.Core.Bool.{Bool, cond, _&&_}
+use Prim.Native.Nat.{ℕ}
+use lib.Dec.{eqb}
+use lib.IntN.{ℤ, pos}
+use lib.Ieee.{Float}
+use Rattle.floats.specs.Operations.{zero-float}
+use Rattle.refusals.specs.declared.answer.AnswerU32.{AnswerU32}
+use Rattle.refusals.specs.declared.answer.AnswerU64.{AnswerU64}
+use Rattle.refusals.specs.declared.answer.AnswerI64.{AnswerI64}
+use Rattle.refusals.specs.declared.answer.AnswerF64.{AnswerF64}
+use Rattle.refusals.specs.declared.answer.AnswerBool.{AnswerBool}
+
+-- the value where nothing refuses, else 0
+unfoldable pub answerU32 : ℕ → ℕ → AnswerU32
+answerU32 n x = record { refusal = n; value = cond (eqb n 0) x 0 }
+
+unfoldable pub answerU64 : ℕ → ℕ → AnswerU64
+answerU64 n x = record { refusal = n; value = cond (eqb n 0) x 0 }
+
+unfoldable pub answerI64 : ℕ → ℤ → AnswerI64
+answerI64 n x = record { refusal = n; value = cond (eqb n 0) x (pos 0) }
+
+unfoldable pub answerF64 : ℕ → Float → AnswerF64
+answerF64 n x = record { refusal = n; value = cond (eqb n 0) x zero-float }
+
+-- the value where nothing refuses, else no
+abbrev pub answerBool : ℕ → Bool → AnswerBool
+answerBool n b = record { refusal = n; value = eqb n 0 && b }
