@@ -1,0 +1,102 @@
+-- Little-endian fields of any width: m bytes and then n more; reading undoes writing, writing undoes reading; equal bytes read alike.
+-- Assumes nothing.
+use Prim.Native.Nat.{ℕ, zero, suc, _+_, _-_, _*_, _/_, _%_, _^_, _≤_, _<_}
+use mathlib.Core.Path.{_≡_, refl, ap, sym, _∙_}
+use mathlib.Core.List.{List, [], _∷_, _++_}
+use lib.ListN.{length, getD, take, drop, replicate, length-append}
+use lib.Seq.{append-snoc, drop-cons, getD-append-seam}
+use native.Mathlib.Numerals.{add-one}
+use native.Mathlib.Omega.{arith}
+use native.Mathlib.Nat.{add-zero, zero-add, suc-add, pow-zero, one-mul, pow-succ', pow-suc, mul-assoc, mod-add-div, div-lt-iff-lt-mul, one-le-pow}
+use mathlib.Core.Bool.{Bool, true, false, cond}
+use lib.Dec.{leb}
+use borrow.Author.Tests.{le-leb, lt-leb, leb-true}
+use Rattle.codec.specs.LittleEndian.{leAt, leBytes, fieldAt}
+use Rattle.codec.specs.Reading.{arrayAt}
+
+-- READING, over the widths: m bytes and then n more
+pub le-join : (s : List ℕ) (at m n : ℕ) → leAt s at (m + n) ≡ leAt s at m + 256 ^ m * leAt s (at + m) n
+unfolding leAt
+le-join s at zero n = simp (zero-add, add-zero, pow-zero, one-mul)
+le-join s at (suc m) n =
+    let ih : leAt s (at + 1) (m + n) ≡ leAt s (at + 1) m + 256 ^ m * leAt s (at + 1 + m) n = le-join s (at + 1) m n in
+    let idx : at + 1 + m ≡ at + suc m = omega arith in
+    let p : 256 ^ suc m * leAt s (at + suc m) n ≡ 256 * (256 ^ m * leAt s (at + suc m) n) = rw (pow-succ', mul-assoc) in
+    rw (suc-add m n) (omega (arith, rw idx at ih, p))
+
+-- WRITING, over the widths: n bytes are written
+pub length-bytes : (n x : ℕ) → length (leBytes n x) ≡ n
+unfolding leBytes
+length-bytes zero x = refl
+length-bytes (suc n) x = ap suc (length-bytes n (x / 256))
+
+-- READING UNDOES WRITING: the bytes of a number that fits make it up again, wherever they stand
+pub read-written : (n x : ℕ) (l r : List ℕ) → x < 256 ^ n → leAt (l ++ (leBytes n x ++ r)) (length l) n ≡ x
+unfolding leAt leBytes
+read-written zero x l r h = let h′ : x < 1 = rw pow-zero at h in omega arith
+read-written (suc n) x l r h =
+    let h′ : x < 256 ^ n * 256 = rw pow-suc at h in
+    let b : ℕ = x % 256 in
+    let ys : List ℕ = leBytes n (x / 256) ++ r in
+    let ih : leAt ((l ++ (b ∷ [])) ++ ys) (length (l ++ (b ∷ []))) n ≡ x / 256 =
+    read-written n (x / 256) (l ++ (b ∷ [])) r (div-lt-iff-lt-mul {k = 256} {x = x} {y = 256 ^ n} (omega arith) .1 h′) in
+    let one : length (l ++ (b ∷ [])) ≡ length l + 1 = length-append l (b ∷ []) in
+    rw (getD-append-seam l b ys 0, ← append-snoc l b ys, ← one, ih) (mod-add-div x 256)
+
+pub read-bytes : (n x : ℕ) → x < 256 ^ n → leAt (leBytes n x ++ []) 0 n ≡ x
+read-bytes n x h = read-written n x [] [] h
+
+-- WRITING UNDOES READING: the bytes of the number that n bytes make up are those bytes
+pub bytes-read : (s : List ℕ) (at n : ℕ) → ((i : ℕ) → getD s i 0 < 256) → at + n ≤ length s → leBytes n (leAt s at n) ≡ take n (drop at s)
+unfolding leAt leBytes
+bytes-read s at zero small h = refl
+bytes-read s at (suc n) small h =
+    let g : ℕ = getD s at 0 in
+    let t : ℕ = leAt s (at + 1) n in
+    let low : (g + 256 * t) % 256 ≡ g = omega (arith, small at) in
+    let high : (g + 256 * t) / 256 ≡ t = omega (arith, small at) in
+    let k : at < length s = omega arith in
+    rw (low, high, bytes-read s (at + 1) n small (omega arith), add-one at, drop-cons s at 0 k)
+
+-- ---- the two answers of a field
+pub field-here : (s : List ℕ) (at n : ℕ) → n ≤ length s - at → leAt s at n ≡ fieldAt s at n
+unfolding fieldAt
+field-here s at n h = simp (le-leb _ _ h)
+
+pub field-not : (s : List ℕ) (at n : ℕ) → length s - at < n → 0 ≡ fieldAt s at n
+unfolding fieldAt
+field-not s at n h = simp (lt-leb _ _ h)
+
+-- n bytes make up a number below 256 ^ n
+le-small : (s : List ℕ) (at n : ℕ) → ((i : ℕ) → getD s i 0 < 256) → leAt s at n < 256 ^ n
+unfolding leAt
+le-small s at zero small = rw pow-zero (omega arith)
+le-small s at (suc n) small = rw pow-succ' (omega (arith, small at, le-small s (at + 1) n small))
+
+pub field-small : (s : List ℕ) (at n : ℕ) → ((i : ℕ) → getD s i 0 < 256) → fieldAt s at n < 256 ^ n
+unfolding fieldAt
+field-small s at n small = go (leb n (length s - at))
+  where
+    go : (t : Bool) → cond t (leAt s at n) 0 < 256 ^ n
+    go true = le-small s at n small
+    go false = one-le-pow n 256 (omega arith)
+
+zero-bytes : (n : ℕ) → leBytes n 0 ≡ replicate n 0
+unfolding leBytes
+zero-bytes zero = refl
+zero-bytes (suc n) = ap (λ (l : List ℕ). 0 ∷ l) (zero-bytes n)
+
+-- the bytes of a field, as an array
+pub field-array : (s : List ℕ) (at n : ℕ) → 0 < n → ((i : ℕ) → getD s i 0 < 256) → leBytes n (fieldAt s at n) ≡ arrayAt s at n
+unfolding fieldAt arrayAt
+field-array s at n p small = go (leb n (length s - at)) refl
+  where
+    go : (t : Bool) → leb n (length s - at) ≡ t → leBytes n (cond t (leAt s at n) 0) ≡ cond t (take n (drop at s)) (replicate n 0)
+    go true e = let h = leb-true n (length s - at) e in bytes-read s at n small (omega arith)
+    go false e = zero-bytes n
+
+-- equal bytes read alike
+pub read-alike : (s t : List ℕ) (at n : ℕ) → ((i : ℕ) → at ≤ i → i < at + n → getD s i 0 ≡ getD t i 0) → leAt s at n ≡ leAt t at n
+unfolding leAt
+read-alike s t at zero e = refl
+read-alike s t at (suc n) e = rw (e at (omega arith) (omega arith), read-alike s t (at + 1) n (λ i a b. e i (omega arith) (omega arith)))

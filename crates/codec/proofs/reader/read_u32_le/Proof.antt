@@ -1,0 +1,13 @@
+use borrow.Author.Needs.{needs}
+use Rattle.codec.specs.Reading.{advanced, readU32}
+use Rattle.codec.proofs.reader.read_u32_le.Statement.{statement}
+use Rattle.codec.proofs.reader.read_u32_le.Tie as tie
+
+returns : tie.Need-returns
+unfolding readU32 advanced
+returns c i =
+    let a = c .before .before .advance .ensures in
+    record { length = a i .length; value = c .u32-at .ensures i; place = a i .place }
+
+pub read-u32-le-spec : {M : Type 1} → statement M
+read-u32-le-spec = tie.close (tie.spec (λ c κs. search needs) (λ c κs. search needs) returns)

@@ -1,0 +1,3 @@
+pub mod LittleEndian
+pub mod Reading
+pub mod Writing

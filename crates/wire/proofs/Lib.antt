@@ -1,0 +1,8 @@
+-- What decoding and encoding mean together. Assumes nothing.
+mod Messages
+mod Blocks
+mod Fields
+pub mod SenderRoundTrip
+pub mod ReceiverRoundTrip
+pub mod PathMtuRoundTrip
+pub mod LengthAnswers

@@ -1,0 +1,22 @@
+use borrow.Author.Needs.{needs}
+use mathlib.Core.Path.{sym, ap, _∙_}
+use Prim.Native.Nat.{ℕ}
+use Rattle.codec.proofs.Lengths.{enough, short}
+use Rattle.wire.specs.PathMtu.{notification, accepted, decoded}
+use Rattle.wire.proofs.path_mtu.PathMtuNotification.decode.Statement.{statement}
+use Rattle.wire.proofs.path_mtu.PathMtuNotification.decode.Tie as tie
+
+returns : tie.Need-returns
+unfolding decoded
+returns c =
+    let g = c .enum-told2 .given in
+    rw (short _ 0 2 (g .0 .0) (g .0 .1 .0) (sym (c .before .before .require .ensures) ∙ g .1))
+
+returns-2 : tie.Need-returns-2
+unfolding decoded
+returns-2 c =
+    rw (enough _ 0 2 (sym (c .before .before .before .require .ensures) ∙ c .before .enum-told .given .1))
+    (ap (λ (x : ℕ). accepted (notification x)) (c .u16-at .ensures))
+
+pub decode-spec : {M : Type 1} → statement M
+decode-spec = tie.close (tie.spec (λ c κs. search needs) (λ c. search needs) (λ c. search needs) returns (λ c κs. search needs) returns-2)

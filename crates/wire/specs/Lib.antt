@@ -1,0 +1,4 @@
+pub mod Payload
+pub mod SenderReport
+pub mod ReceiverReport
+pub mod PathMtu

@@ -1,0 +1,123 @@
+-- ReceiverReport, 68 bytes (document 01, "Report bytes"): highest 8, packets 8, bytes 8, echo 4, dwell 2, max burst 2, mean burst 2, reserved 2, jitter 4,
+-- ECN 4, trend 4 signed, bursts 4, reorders 4, interval packets 4, interval bytes 4.
+use Prim.Native.Nat.{ℕ, _^_, _<_}
+use mathlib.Core.Bool.{cond}
+use mathlib.Core.List.{List, [], _∷_, _++_}
+use lib.ListN.{length}
+use lib.Dec.{leb}
+use lib.IntN.{pos}
+use mir.Syntax.{w32}
+use mir.Val.{SFits, toZ, ofZ}
+use Rattle.codec.specs.LittleEndian.{leBytes, fieldAt, withField}
+use Rattle.wire.specs.Payload.{roomAnswer, writtenInto}
+use Rattle.wire.specs.declared.receiver_report.ReceiverReport.{ReceiverReport}
+use Rattle.wire.specs.declared.receiver_report.Decoded.{Decoded}
+
+-- the bytes: the type, three zeros, the fields in order with two zeros before the jitter
+unfoldable pub encoded : ReceiverReport → List ℕ
+encoded r =
+    2 ∷ 0 ∷ 0 ∷ 0 ∷ []
+    ++ leBytes 8 (r .«highest_counter»)
+    ++ leBytes 8 (r .«cumulative_packets_recv»)
+    ++ leBytes 8 (r .«cumulative_bytes_recv»)
+    ++ leBytes 4 (r .«timestamp_echo»)
+    ++ leBytes 2 (r .«dwell_time»)
+    ++ leBytes 2 (r .«max_burst_loss»)
+    ++ leBytes 2 (r .«mean_burst_loss»)
+    ++ (0 ∷ 0 ∷ [])
+    ++ leBytes 4 (r .jitter)
+    ++ leBytes 4 (r .«ecn_ce_count»)
+    ++ leBytes 4 (ofZ w32 (r .«owd_trend»))
+    ++ leBytes 4 (r .«burst_loss_count»)
+    ++ leBytes 4 (r .«cumulative_reorder_count»)
+    ++ leBytes 4 (r .«interval_packets_recv»)
+    ++ leBytes 4 (r .«interval_bytes_recv»)
+
+abbrev pub encodeAnswer : List ℕ → ℕ
+encodeAnswer out = roomAnswer 68 out
+
+abbrev pub encodedInto : List ℕ → ReceiverReport → List ℕ
+encodedInto out r = writtenInto out (encoded r)
+
+-- the fields of a payload that is long enough: it lacks the type byte, so each stands one place lower; 37 and 38 are reserved
+unfoldable pub reportIn : List ℕ → ReceiverReport
+reportIn s = record {
+  «highest_counter» = fieldAt s 3 8;
+  «cumulative_packets_recv» = fieldAt s 11 8;
+  «cumulative_bytes_recv» = fieldAt s 19 8;
+  «timestamp_echo» = fieldAt s 27 4;
+  «dwell_time» = fieldAt s 31 2;
+  «max_burst_loss» = fieldAt s 33 2;
+  «mean_burst_loss» = fieldAt s 35 2;
+  jitter = fieldAt s 39 4;
+  «ecn_ce_count» = fieldAt s 43 4;
+  «owd_trend» = toZ w32 (fieldAt s 47 4);
+  «burst_loss_count» = fieldAt s 51 4;
+  «cumulative_reorder_count» = fieldAt s 55 4;
+  «interval_packets_recv» = fieldAt s 59 4;
+  «interval_bytes_recv» = fieldAt s 63 4;
+}
+
+-- every field 0
+unfoldable pub noReport : ReceiverReport
+noReport = record {
+  «highest_counter» = 0;
+  «cumulative_packets_recv» = 0;
+  «cumulative_bytes_recv» = 0;
+  «timestamp_echo» = 0;
+  «dwell_time» = 0;
+  «max_burst_loss» = 0;
+  «mean_burst_loss» = 0;
+  jitter = 0;
+  «ecn_ce_count» = 0;
+  «owd_trend» = pos 0;
+  «burst_loss_count» = 0;
+  «cumulative_reorder_count» = 0;
+  «interval_packets_recv» = 0;
+  «interval_bytes_recv» = 0;
+}
+
+-- the report, and nothing refused
+abbrev pub accepted : ReceiverReport → Decoded
+accepted r = record { refusal = 0; needed = 0; given = 0; report = r }
+
+-- document 01, check 7: both lengths, and no report
+abbrev pub tooShort : ℕ → Decoded
+tooShort given = record { refusal = 7; needed = 67; given = given; report = noReport }
+
+-- a payload of at least 67 bytes is read; anything past them is ignored
+unfoldable pub decoded : List ℕ → Decoded
+decoded s = cond (leb 67 (length s)) (accepted (reportIn s)) (tooShort (length s))
+
+-- what every ReceiverReport of the code keeps: each field fits its type
+pub record Fits (r : ReceiverReport) : Type 0 where
+  pub «highest_counter» : r .«highest_counter» < 2 ^ 64
+  pub «cumulative_packets_recv» : r .«cumulative_packets_recv» < 2 ^ 64
+  pub «cumulative_bytes_recv» : r .«cumulative_bytes_recv» < 2 ^ 64
+  pub «timestamp_echo» : r .«timestamp_echo» < 2 ^ 32
+  pub «dwell_time» : r .«dwell_time» < 2 ^ 16
+  pub «max_burst_loss» : r .«max_burst_loss» < 2 ^ 16
+  pub «mean_burst_loss» : r .«mean_burst_loss» < 2 ^ 16
+  pub jitter : r .jitter < 2 ^ 32
+  pub «ecn_ce_count» : r .«ecn_ce_count» < 2 ^ 32
+  pub «owd_trend» : SFits w32 (r .«owd_trend»)
+  pub «burst_loss_count» : r .«burst_loss_count» < 2 ^ 32
+  pub «cumulative_reorder_count» : r .«cumulative_reorder_count» < 2 ^ 32
+  pub «interval_packets_recv» : r .«interval_packets_recv» < 2 ^ 32
+  pub «interval_bytes_recv» : r .«interval_bytes_recv» < 2 ^ 32
+
+-- ---- the parts in which the code makes the bytes up
+abbrev pub withCounts : ReceiverReport → List ℕ → List ℕ
+withCounts r b =
+    withField (withField (withField (withField b 0 1 2) 4 8 (r .«highest_counter»)) 12 8 (r .«cumulative_packets_recv»)) 20 8 (r .«cumulative_bytes_recv»)
+
+abbrev pub withBursts : ReceiverReport → List ℕ → List ℕ
+withBursts r b =
+    withField (withField (withField (withField b 28 4 (r .«timestamp_echo»)) 32 2 (r .«dwell_time»)) 34 2 (r .«max_burst_loss»)) 36 2 (r .«mean_burst_loss»)
+
+abbrev pub withDelay : ReceiverReport → List ℕ → List ℕ
+withDelay r b =
+    withField (withField (withField (withField b 40 4 (r .jitter)) 44 4 (r .«ecn_ce_count»)) 48 4 (ofZ w32 (r .«owd_trend»))) 52 4 (r .«burst_loss_count»)
+
+abbrev pub withInterval : ReceiverReport → List ℕ → List ℕ
+withInterval r b = withField (withField (withField b 56 4 (r .«cumulative_reorder_count»)) 60 4 (r .«interval_packets_recv»)) 64 4 (r .«interval_bytes_recv»)

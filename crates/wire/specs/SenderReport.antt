@@ -1,0 +1,84 @@
+-- SenderReport, 48 bytes (document 01, "Report bytes"): start counter 8, end counter 8, start time 4, end time 4, interval bytes 4, packets 8, bytes 8.
+use Prim.Native.Nat.{ℕ, _^_, _<_}
+use mathlib.Core.Bool.{cond}
+use mathlib.Core.List.{List, [], _∷_, _++_}
+use lib.ListN.{length}
+use lib.Dec.{leb}
+use Rattle.codec.specs.LittleEndian.{leBytes, fieldAt, withField}
+use Rattle.wire.specs.Payload.{roomAnswer, writtenInto}
+use Rattle.wire.specs.declared.sender_report.SenderReport.{SenderReport}
+use Rattle.wire.specs.declared.sender_report.Decoded.{Decoded}
+
+-- the bytes: the type, three zeros, the fields in order
+unfoldable pub encoded : SenderReport → List ℕ
+encoded r =
+    1 ∷ 0 ∷ 0 ∷ 0 ∷ []
+    ++ leBytes 8 (r .«interval_start_counter»)
+    ++ leBytes 8 (r .«interval_end_counter»)
+    ++ leBytes 4 (r .«interval_start_timestamp»)
+    ++ leBytes 4 (r .«interval_end_timestamp»)
+    ++ leBytes 4 (r .«interval_bytes_sent»)
+    ++ leBytes 8 (r .«cumulative_packets_sent»)
+    ++ leBytes 8 (r .«cumulative_bytes_sent»)
+
+abbrev pub encodeAnswer : List ℕ → ℕ
+encodeAnswer out = roomAnswer 48 out
+
+abbrev pub encodedInto : List ℕ → SenderReport → List ℕ
+encodedInto out r = writtenInto out (encoded r)
+
+-- the fields of a payload that is long enough: it lacks the type byte, so each stands one place lower
+unfoldable pub reportIn : List ℕ → SenderReport
+reportIn s = record {
+  «interval_start_counter» = fieldAt s 3 8;
+  «interval_end_counter» = fieldAt s 11 8;
+  «interval_start_timestamp» = fieldAt s 19 4;
+  «interval_end_timestamp» = fieldAt s 23 4;
+  «interval_bytes_sent» = fieldAt s 27 4;
+  «cumulative_packets_sent» = fieldAt s 31 8;
+  «cumulative_bytes_sent» = fieldAt s 39 8;
+}
+
+-- every field 0
+unfoldable pub noReport : SenderReport
+noReport = record {
+  «interval_start_counter» = 0;
+  «interval_end_counter» = 0;
+  «interval_start_timestamp» = 0;
+  «interval_end_timestamp» = 0;
+  «interval_bytes_sent» = 0;
+  «cumulative_packets_sent» = 0;
+  «cumulative_bytes_sent» = 0;
+}
+
+-- the report, and nothing refused
+abbrev pub accepted : SenderReport → Decoded
+accepted r = record { refusal = 0; needed = 0; given = 0; report = r }
+
+-- document 01, check 7: both lengths, and no report
+abbrev pub tooShort : ℕ → Decoded
+tooShort given = record { refusal = 7; needed = 47; given = given; report = noReport }
+
+-- a payload of at least 47 bytes is read; anything past them is ignored
+unfoldable pub decoded : List ℕ → Decoded
+decoded s = cond (leb 47 (length s)) (accepted (reportIn s)) (tooShort (length s))
+
+-- what every SenderReport of the code keeps: each field fits its type
+pub record Fits (r : SenderReport) : Type 0 where
+  pub «interval_start_counter» : r .«interval_start_counter» < 2 ^ 64
+  pub «interval_end_counter» : r .«interval_end_counter» < 2 ^ 64
+  pub «interval_start_timestamp» : r .«interval_start_timestamp» < 2 ^ 32
+  pub «interval_end_timestamp» : r .«interval_end_timestamp» < 2 ^ 32
+  pub «interval_bytes_sent» : r .«interval_bytes_sent» < 2 ^ 32
+  pub «cumulative_packets_sent» : r .«cumulative_packets_sent» < 2 ^ 64
+  pub «cumulative_bytes_sent» : r .«cumulative_bytes_sent» < 2 ^ 64
+
+-- ---- the parts in which the code makes the bytes up
+abbrev pub withCounters : SenderReport → List ℕ → List ℕ
+withCounters r b = withField (withField (withField b 0 1 1) 4 8 (r .«interval_start_counter»)) 12 8 (r .«interval_end_counter»)
+
+abbrev pub withTimes : SenderReport → List ℕ → List ℕ
+withTimes r b = withField (withField (withField b 20 4 (r .«interval_start_timestamp»)) 24 4 (r .«interval_end_timestamp»)) 28 4 (r .«interval_bytes_sent»)
+
+abbrev pub withTotals : SenderReport → List ℕ → List ℕ
+withTotals r b = withField (withField b 32 8 (r .«cumulative_packets_sent»)) 40 8 (r .«cumulative_bytes_sent»)

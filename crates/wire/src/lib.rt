@@ -1,0 +1,4 @@
+// wire.rs: the report wire format, less the session reports. `encode` fills a lent buffer, `decode` takes the payload after the type byte.
+pub mod path_mtu;
+pub mod receiver_report;
+pub mod sender_report;

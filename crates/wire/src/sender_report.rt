@@ -1,0 +1,130 @@
+// SenderReport (msg_type 0x01, 48 bytes including the type byte).
+ghost use mathlib.Core.Path.{_≡_};
+ghost use Rattle.wire.specs.SenderReport.{reportIn, noReport, decoded, withCounters, withTimes, withTotals, encoded, encodeAnswer, encodedInto};
+use codec::Place;
+use codec::fields::put_u8;
+use codec::fields::put_u32;
+use codec::fields::put_u64;
+use codec::fields::u32_at;
+use codec::fields::u64_at;
+use codec::reader::Length;
+use codec::reader::require;
+
+pub struct SenderReport {
+    pub interval_start_counter: u64,
+    pub interval_end_counter: u64,
+    pub interval_start_timestamp: u32,
+    pub interval_end_timestamp: u32,
+    pub interval_bytes_sent: u32,
+    pub cumulative_packets_sent: u64,
+    pub cumulative_bytes_sent: u64,
+}
+
+// The report, or number 7 with the needed and given lengths and a report of zeros.
+pub struct Decoded {
+    pub refusal: u8,
+    pub needed: usize,
+    pub given: usize,
+    pub report: SenderReport,
+}
+
+impl SenderReport {
+    // Writes 48 bytes and answers 0, or writes nothing and answers 6.
+    pub fn encode(self, out: &mut [u8]) -> u8
+        ensures { λ r. ⌜ (r ≡ encodeAnswer (now (out .entry))) × (now (out .exit) ≡ encodedInto (now (out .entry)) self) ⌝ }
+    {
+        if out.len() < 48 {
+            return 6;
+        }
+        let block = block_of(self);
+        bytes::copy(&block, out);
+        0
+    }
+
+    // The payload starts at the reserved bytes, after the type byte.
+    pub fn decode(payload: &[u8]) -> Decoded
+        ensures { λ r. ⌜ r ≡ decoded (now (payload .entry)) ⌝ }
+    {
+        let Length::Enough = require(payload, Place { pos: 0 }, 47) else {
+            return Decoded {
+                refusal: 7,
+                needed: 47,
+                given: payload.len(),
+                report: no_report(),
+            };
+        };
+        Decoded {
+            refusal: 0,
+            needed: 0,
+            given: 0,
+            report: report_in(payload),
+        }
+    }
+}
+
+// Every field 0, where there is no report.
+pub fn no_report() -> SenderReport
+    ensures { λ r. ⌜ r ≡ noReport ⌝ }
+{
+    SenderReport {
+        interval_start_counter: 0,
+        interval_end_counter: 0,
+        interval_start_timestamp: 0,
+        interval_end_timestamp: 0,
+        interval_bytes_sent: 0,
+        cumulative_packets_sent: 0,
+        cumulative_bytes_sent: 0,
+    }
+}
+
+fn report_in(s: &[u8]) -> SenderReport
+    ensures { λ r. ⌜ r ≡ reportIn (now (s .entry)) ⌝ }
+{
+    SenderReport {
+        interval_start_counter: u64_at(s, 3),
+        interval_end_counter: u64_at(s, 11),
+        interval_start_timestamp: u32_at(s, 19),
+        interval_end_timestamp: u32_at(s, 23),
+        interval_bytes_sent: u32_at(s, 27),
+        cumulative_packets_sent: u64_at(s, 31),
+        cumulative_bytes_sent: u64_at(s, 39),
+    }
+}
+
+fn with_counters(block: [u8; 48], r: SenderReport) -> [u8; 48]
+    ensures { λ b. ⌜ b ≡ withCounters r block ⌝ }
+{
+    let mut b = block;
+    put_u8(&mut b, 0, 1);
+    put_u64(&mut b, 4, r.interval_start_counter);
+    put_u64(&mut b, 12, r.interval_end_counter);
+    b
+}
+
+fn with_times(block: [u8; 48], r: SenderReport) -> [u8; 48]
+    ensures { λ b. ⌜ b ≡ withTimes r block ⌝ }
+{
+    let mut b = block;
+    put_u32(&mut b, 20, r.interval_start_timestamp);
+    put_u32(&mut b, 24, r.interval_end_timestamp);
+    put_u32(&mut b, 28, r.interval_bytes_sent);
+    b
+}
+
+fn with_totals(block: [u8; 48], r: SenderReport) -> [u8; 48]
+    ensures { λ b. ⌜ b ≡ withTotals r block ⌝ }
+{
+    let mut b = block;
+    put_u64(&mut b, 32, r.cumulative_packets_sent);
+    put_u64(&mut b, 40, r.cumulative_bytes_sent);
+    b
+}
+
+fn block_of(r: SenderReport) -> [u8; 48]
+    ensures { λ b. ⌜ b ≡ encoded r ⌝ }
+{
+    let zeros = [0; 48];
+    let b1 = with_counters(zeros, r);
+    let b2 = with_times(b1, r);
+    with_totals(b2, r)
+}
