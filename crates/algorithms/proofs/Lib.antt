@@ -1,0 +1,14 @@
+pub mod JitterKeepsRule
+pub mod SrttKeepsRule
+pub mod SrttStepsEstimate
+pub mod EwmaKeepsRule
+pub mod EwmaStaysBetween
+pub mod SpinKeepsRule
+pub mod RatioProducts
+pub mod EtxOfRatios
+pub mod OwdRuleKept
+pub mod OwdStretches
+pub mod OwdGates
+pub mod OwdTrendGates
+pub mod WindowAfterPush
+pub mod SumStart

@@ -1,0 +1,7 @@
+pub mod Jitter
+pub mod Srtt
+pub mod Ewma
+pub mod Spin
+pub mod Etx
+pub mod Owd
+pub mod OwdTrend
