@@ -1,0 +1,2 @@
+pub mod RuleKept
+pub mod MeanBurst

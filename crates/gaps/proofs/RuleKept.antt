@@ -1,0 +1,164 @@
+-- Each call ends within a tracker's rule: a new tracker keeps it, and so does the tracker after a frame whose burst can be counted, and after a report.
+-- Assumes nothing.
+use mathlib.Core.Path.{_≡_, refl, sym, ap, _∙_}
+use mathlib.Core.Bool.{Bool, true, false, cond, not, _&&_, _||_, true≢false, and-eq-true-iff}
+use Prim.Native.Nat.{ℕ, _+_, _-_, _*_, _%_, _^_, _≤_, _<_, min}
+use native.Mathlib.Omega.{arith}
+use lib.Dec.{leb, eqb}
+use borrow.Author.Tests.{leb-true, le-leb, eqb-true, eqb-false, eq-eqb, ltb-true, not-false}
+use Rattle.refusals.specs.Ranges.{counterOk}
+use Rattle.refusals.specs.declared.option.OptionU64.{OptionU64}
+use Rattle.refusals.specs.declared.option.OptionU64.the-variants.{None, Some}
+use Rattle.gaps.specs.Gaps.{maxLength, maxCounter, finishedBursts, keepsRule, Kept, Fits, fresh, gapAt, beginsBurst, burstsOk, nextAfter, expecting, burst, ended, closed, missed, moved, observedAfter, observed}
+use Rattle.gaps.specs.Stats.{statsOf}
+use Rattle.gaps.specs.declared.GapTracker.{GapTracker}
+
+-- ---- the rule by its clauses
+either : (a b : Bool) → (a || b) ≡ true → a ≡ false → b ≡ true
+either true b h e = absurd (true≢false e)
+either false b h e = h
+
+or : (a b : Bool) → (a ≡ false → b ≡ true) → (a || b) ≡ true
+or true b h = refl
+or false b h = h refl
+
+pub kept : (t : GapTracker) → keepsRule t ≡ true → Kept t
+unfolding keepsRule
+kept t h =
+    let o = t .«in_burst» || eqb (t .«current_burst_len») 0 in
+    let i = not (t .«in_burst») || leb 1 (t .«burst_count») in
+    let p = and-eq-true-iff (o && i) (leb (t .«total_burst_len») (maxLength * finishedBursts t)) .0 h in
+    let q = and-eq-true-iff o i .0 (p .0) in
+    record {
+      outside = λ e. eqb-true (t .«current_burst_len») 0 (either (t .«in_burst») (eqb (t .«current_burst_len») 0) (q .0) e);
+      inside = λ e. leb-true 1 (t .«burst_count») (either (not (t .«in_burst»)) (leb 1 (t .«burst_count»)) (q .1) (ap not e));
+      total = leb-true (t .«total_burst_len») (maxLength * finishedBursts t) (p .1);
+    }
+
+pub keeps : (t : GapTracker) → Kept t → keepsRule t ≡ true
+unfolding keepsRule
+keeps t k =
+    let o = t .«in_burst» || eqb (t .«current_burst_len») 0 in
+    let i = not (t .«in_burst») || leb 1 (t .«burst_count») in
+    and-eq-true-iff (o && i) (leb (t .«total_burst_len») (maxLength * finishedBursts t)) .1 (
+      and-eq-true-iff o i .1 (
+        or (t .«in_burst») (eqb (t .«current_burst_len») 0) (λ e. eq-eqb (t .«current_burst_len») 0 (k .outside e)),
+        or (not (t .«in_burst»)) (leb 1 (t .«burst_count»)) (λ e. le-leb 1 (t .«burst_count») (k .inside (not-false (t .«in_burst») e))),
+      ),
+      le-leb (t .«total_burst_len») (maxLength * finishedBursts t) (k .total),
+    )
+
+finished-inside : (t : GapTracker) → t .«in_burst» ≡ true → finishedBursts t ≡ t .«burst_count» - 1
+unfolding finishedBursts
+finished-inside t e = ap (λ b. cond b (t .«burst_count» - 1) (t .«burst_count»)) e
+
+pub finished-outside : (t : GapTracker) → t .«in_burst» ≡ false → finishedBursts t ≡ t .«burst_count»
+unfolding finishedBursts
+finished-outside t e = ap (λ b. cond b (t .«burst_count» - 1) (t .«burst_count»)) e
+
+-- ---- a burst ends
+pub closed-kept : (t : GapTracker) → Kept t → Fits t → Kept (closed t)
+unfolding closed finishedBursts
+closed-kept t k f = go (t .«in_burst») refl
+  where
+    go : (b : Bool) → t .«in_burst» ≡ b → Kept (cond b (ended t) t)
+    go true e =
+        let n = k .inside e in
+        let l = k .total in
+        record { outside = λ z. refl; inside = λ z. absurd (true≢false (sym z)); total = omega (arith, l, n, f, finished-inside t e) }
+    go false e = k
+
+pub closed-outside : (t : GapTracker) → closed t .«in_burst» ≡ false
+unfolding closed
+closed-outside t = go (t .«in_burst») refl
+  where
+    go : (b : Bool) → t .«in_burst» ≡ b → cond b (ended t) t .«in_burst» ≡ false
+    go true e = refl
+    go false e = e
+
+-- ---- a gap
+missed-kept : (t : GapTracker) (gap : ℕ) → Kept t → (t .«in_burst» ≡ false → t .«burst_count» + 1 < 2 ^ 32) → Kept (missed t gap)
+unfolding missed finishedBursts
+missed-kept t gap k room = go (t .«in_burst») refl
+  where
+    go : (b : Bool) → t .«in_burst» ≡ b
+        → Kept (cond b (burst t (t .«in_burst») (min (t .«current_burst_len» + gap % 65536) maxLength) (t .«burst_count»)) (burst t true (gap % 65536) (min (t .«burst_count» + 1) 4294967295)))
+    go true e = record { outside = λ z. absurd (true≢false (sym e ∙ z)); inside = k .inside; total = k .total }
+    go false e =
+        let r = room e in
+        let l = k .total in
+        record { outside = λ z. absurd (true≢false z); inside = λ z. omega arith; total = omega (arith, l, r, finished-outside t e) }
+
+moved-kept : (t : GapTracker) (gap : ℕ) → Kept t → Fits t → (t .«in_burst» ≡ false → 1 ≤ gap → t .«burst_count» + 1 < 2 ^ 32) → Kept (moved t gap)
+unfolding moved
+moved-kept t gap k f room = go (eqb gap 0) (eqb-false gap 0)
+  where
+    go : (b : Bool) → (b ≡ false → gap ≡ 0 → ⊥) → Kept (cond b (closed t) (missed t gap))
+    go true n = closed-kept t k f
+    go false n = let m = n refl in missed-kept t gap k (λ e. room e (omega arith))
+
+expecting-kept : (t : GapTracker) (next : ℕ) → Kept t → Kept (expecting t next)
+unfolding finishedBursts
+expecting-kept t next k = record { outside = k .outside; inside = k .inside; total = k .total }
+
+-- where the frame begins a burst, the count has room
+room-asked : (t : GapTracker) (counter : ℕ) → burstsOk t counter ≡ true → t .«in_burst» ≡ false → 1 ≤ gapAt (t .«expected_next») counter → t .«burst_count» + 1 < 2 ^ 32
+room-asked t counter h e l =
+    let g : beginsBurst t counter ≡ true = rw (e, le-leb 1 (gapAt (t .«expected_next») counter) l) in
+    ltb-true (t .«burst_count» + 1) (2 ^ 32) (either (not (beginsBurst t counter)) (counterOk 32 (t .«burst_count») 1) h (ap not g))
+
+pub observed-keeps-rule : (t : GapTracker) (counter : ℕ) → keepsRule t ≡ true → Fits t → burstsOk t counter ≡ true → keepsRule (observed t counter .tracker) ≡ true
+unfolding observed
+observed-keeps-rule t counter h f b = keeps _ (go (t .«expected_next») (room-asked t counter b))
+  where
+    go : (due : OptionU64) → (t .«in_burst» ≡ false → 1 ≤ gapAt due counter → t .«burst_count» + 1 < 2 ^ 32) → Kept (observedAfter due t counter .tracker)
+    go None room = expecting-kept t (min (counter + 1) maxCounter) (kept t h)
+    go (Some expected) room = expecting-kept (moved t (counter - expected)) (nextAfter expected counter) (moved-kept t (counter - expected) (kept t h) f room)
+
+-- ---- the current length stays within its type
+closed-fits : (t : GapTracker) → Fits t → Fits (closed t)
+unfolding closed
+closed-fits t f = go (t .«in_burst»)
+  where
+    go : (b : Bool) → Fits (cond b (ended t) t)
+    go true = omega arith
+    go false = f
+
+missed-fits : (t : GapTracker) (gap : ℕ) → Fits (missed t gap)
+unfolding missed
+missed-fits t gap = go (t .«in_burst»)
+  where
+    go : (b : Bool) → Fits (cond b (burst t (t .«in_burst») (min (t .«current_burst_len» + gap % 65536) maxLength) (t .«burst_count»)) (burst t true (gap % 65536) (min (t .«burst_count» + 1) 4294967295)))
+    go true = omega arith
+    go false = omega arith
+
+moved-fits : (t : GapTracker) (gap : ℕ) → Fits t → Fits (moved t gap)
+unfolding moved
+moved-fits t gap f = go (eqb gap 0)
+  where
+    go : (b : Bool) → Fits (cond b (closed t) (missed t gap))
+    go true = closed-fits t f
+    go false = missed-fits t gap
+
+pub observed-fits : (t : GapTracker) (counter : ℕ) → Fits t → Fits (observed t counter .tracker)
+unfolding observed
+observed-fits t counter f = go (t .«expected_next»)
+  where
+    go : (due : OptionU64) → Fits (observedAfter due t counter .tracker)
+    go None = f
+    go (Some expected) = moved-fits t (counter - expected) f
+
+-- ---- a new tracker, and a report
+pub fresh-keeps-rule : keepsRule fresh ≡ true
+unfolding keepsRule finishedBursts
+fresh-keeps-rule = refl
+
+pub stats-keep-rule : (t : GapTracker) → keepsRule t ≡ true → Fits t → keepsRule (statsOf t .tracker) ≡ true
+unfolding statsOf finishedBursts
+stats-keep-rule t h f =
+    let o = closed-outside t in
+    keeps _ (record { outside = closed-kept t (kept t h) f .outside; inside = λ e. absurd (true≢false (sym e ∙ o)); total = omega arith })
+
+pub stats-fit : (t : GapTracker) → Fits t → Fits (statsOf t .tracker)
+unfolding statsOf
+stats-fit t f = closed-fits t f

@@ -1,0 +1,127 @@
+-- Gaps in the counters as bursts of lost frames: document 01, "Jitter, delay trend and bursts", and receiver.rs, `GapTracker`. Definitions only.
+use mathlib.Core.Bool.{Bool, true, false, cond, not, _&&_, _||_}
+use Prim.Native.Nat.{ℕ, _+_, _-_, _*_, _%_, _≤_, min, max}
+use mathlib.Core.Path.{_≡_}
+use lib.Dec.{leb, eqb}
+use Rattle.refusals.specs.Ranges.{counterOk}
+use Rattle.refusals.specs.declared.option.OptionU64.{OptionU64}
+use Rattle.refusals.specs.declared.option.OptionU64.the-variants.{None, Some}
+use Rattle.gaps.specs.declared.GapTracker.{GapTracker}
+use Rattle.gaps.specs.declared.Observed.{Observed}
+
+-- 2^16 − 1, at which a burst's length saturates
+abbrev pub maxLength : ℕ
+maxLength = 65535
+
+-- 2^64 − 1, at which a counter that is due saturates
+abbrev pub maxCounter : ℕ
+maxCounter = 18446744073709551615
+
+-- ---- the rule: document 01, State rule
+-- the finished bursts: the count, less one inside a burst
+unfoldable pub finishedBursts : GapTracker → ℕ
+finishedBursts t = cond (t .«in_burst») (t .«burst_count» - 1) (t .«burst_count»)
+
+-- outside a burst its current length is 0; inside one the burst count is at least 1; the total is at most 65,535 × finished bursts
+unfoldable pub keepsRule : GapTracker → Bool
+keepsRule t =
+    (t .«in_burst» || eqb (t .«current_burst_len») 0) && (not (t .«in_burst») || leb 1 (t .«burst_count»)) && leb (t .«total_burst_len») (maxLength * finishedBursts t)
+
+-- the rule's clauses by name
+pub record Kept (t : GapTracker) : Type 0 where
+  pub outside : t .«in_burst» ≡ false → t .«current_burst_len» ≡ 0
+  pub inside : t .«in_burst» ≡ true → 1 ≤ t .«burst_count»
+  pub total : t .«total_burst_len» ≤ maxLength * finishedBursts t
+
+-- what the type of the current length keeps
+abbrev pub Fits : GapTracker → Type 0
+Fits t = t .«current_burst_len» ≤ maxLength
+
+-- no frame yet
+abbrev pub fresh : GapTracker
+fresh =
+    record {
+      «expected_next» = None;
+      «in_burst» = false;
+      «current_burst_len» = 0;
+      «burst_count» = 0;
+      «max_burst_len» = 0;
+      «total_burst_len» = 0;
+    }
+
+-- ---- the gap before a frame
+-- the frames missing before this counter; none before a first frame, one in order or a late one
+abbrev pub gapAt : OptionU64 → ℕ → ℕ
+gapAt None counter = 0
+gapAt (Some expected) counter = counter - expected
+
+-- a gap outside a burst begins one
+abbrev pub beginsBurst : GapTracker → ℕ → Bool
+beginsBurst t counter = not (t .«in_burst») && leb 1 (gapAt (t .«expected_next») counter)
+
+-- document 01, question 10: where the frame begins a burst, the count can hold one more
+abbrev pub burstsOk : GapTracker → ℕ → Bool
+burstsOk t counter = not (beginsBurst t counter) || counterOk 32 (t .«burst_count») 1
+
+-- the counter that is due after a frame: one more, and after a late frame the one that was due
+unfoldable pub nextAfter : ℕ → ℕ → ℕ
+nextAfter expected counter = cond (leb expected counter) (min (counter + 1) maxCounter) expected
+
+-- ---- a frame
+-- this counter is due next
+abbrev pub expecting : GapTracker → ℕ → GapTracker
+expecting t next =
+    record {
+      «expected_next» = Some next;
+      «in_burst» = t .«in_burst»;
+      «current_burst_len» = t .«current_burst_len»;
+      «burst_count» = t .«burst_count»;
+      «max_burst_len» = t .«max_burst_len»;
+      «total_burst_len» = t .«total_burst_len»;
+    }
+
+-- under way or not, with this length, and so many bursts counted
+abbrev pub burst : GapTracker → Bool → ℕ → ℕ → GapTracker
+burst t underway len count =
+    record {
+      «expected_next» = t .«expected_next»;
+      «in_burst» = underway;
+      «current_burst_len» = len;
+      «burst_count» = count;
+      «max_burst_len» = t .«max_burst_len»;
+      «total_burst_len» = t .«total_burst_len»;
+    }
+
+-- the burst under way ends: its length is in the greatest and in the total
+abbrev pub ended : GapTracker → GapTracker
+ended t =
+    record {
+      «expected_next» = t .«expected_next»;
+      «in_burst» = false;
+      «current_burst_len» = 0;
+      «burst_count» = t .«burst_count»;
+      «max_burst_len» = max (t .«max_burst_len») (t .«current_burst_len»);
+      «total_burst_len» = min (t .«total_burst_len» + t .«current_burst_len») maxCounter;
+    }
+
+-- no burst is under way any more
+unfoldable pub closed : GapTracker → GapTracker
+closed t = cond (t .«in_burst») (ended t) t
+
+-- "takes a gap's low 16 bits, and adds within a burst saturating at 65,535"
+unfoldable pub missed : GapTracker → ℕ → GapTracker
+missed t gap =
+    cond (t .«in_burst») (burst t (t .«in_burst») (min (t .«current_burst_len» + gap % 65536) maxLength) (t .«burst_count»))
+    (burst t true (gap % 65536) (min (t .«burst_count» + 1) 4294967295))
+
+-- a gap is a burst or part of one; a frame in order, or a late one, ends it
+unfoldable pub moved : GapTracker → ℕ → GapTracker
+moved t gap = cond (eqb gap 0) (closed t) (missed t gap)
+
+-- a frame of this counter after one that made `due` due
+abbrev pub observedAfter : OptionU64 → GapTracker → ℕ → Observed
+observedAfter None t counter = record { lost = 0; tracker = expecting t (min (counter + 1) maxCounter) }
+observedAfter (Some expected) t counter = record { lost = counter - expected; tracker = expecting (moved t (counter - expected)) (nextAfter expected counter) }
+
+unfoldable pub observed : GapTracker → ℕ → Observed
+observed t counter = observedAfter (t .«expected_next») t counter

@@ -1,0 +1,258 @@
+// receiver.rs, Gap Tracker: gaps in the counters of the frames that come, as bursts of lost frames.
+
+ghost use mathlib.Core.Path.{_≡_};
+ghost use Prim.Native.Nat.{_+_, _%_, min, max};
+ghost use Rattle.gaps.specs.Gaps.{keepsRule, finishedBursts, fresh, gapAt, beginsBurst, burstsOk, expecting, nextAfter, closed, missed, moved, observed};
+ghost use Rattle.gaps.specs.Stats.{meanBurst, cleared, statsOf};
+use numbers::saturating_add;
+use numbers::saturating_sub;
+use refusals::option::OptionU64;
+use refusals::ranges::counter_u32_ok;
+
+// 2^16 − 1: the greatest length of a burst.
+pub const MAX_BURST_LEN: u64 = 65_535;
+
+// Each gap in the counter sequence is a burst of lost frames.
+pub struct GapTracker {
+    // Next expected counter value.
+    pub expected_next: OptionU64,
+    // Whether we are currently in a burst (gap).
+    pub in_burst: bool,
+    // Length of the current burst.
+    pub current_burst_len: u16,
+    // --- Per-interval stats (reset on report) ---
+    // Number of distinct burst events this interval.
+    pub burst_count: u32,
+    // Longest burst in this interval.
+    pub max_burst_len: u16,
+    // Sum of all burst lengths (for mean computation).
+    pub total_burst_len: u64,
+}
+
+// The frames lost before the one observed, and the tracker after it.
+pub struct Observed {
+    pub lost: u64,
+    pub tracker: GapTracker,
+}
+
+// An interval's bursts: their number, the longest and the mean in 1/256 of a frame; and the tracker for the next interval.
+pub struct IntervalStats {
+    pub count: u32,
+    pub max: u16,
+    pub mean: u16,
+    pub tracker: GapTracker,
+}
+
+// Rust's `a.saturating_add(b)`.
+fn saturating_add_u16(a: u16, b: u16) -> u16
+    ensures { λ r. ⌜ r ≡ min (a + b) 65535 ⌝ }
+{
+    if a <= 65_535 - b { a + b } else { 65_535 }
+}
+
+// Rust's `a.saturating_add(b)`.
+fn saturating_add_u64(a: u64, b: u64) -> u64
+    ensures { λ r. ⌜ r ≡ min (a + b) 18446744073709551615 ⌝ }
+{
+    if a <= 18_446_744_073_709_551_615 - b {
+        a + b
+    } else {
+        18_446_744_073_709_551_615
+    }
+}
+
+// Rust's `a.max(b)`.
+fn longer(a: u16, b: u16) -> u16
+    ensures { λ r. ⌜ r ≡ max a b ⌝ }
+{
+    if a < b { b } else { a }
+}
+
+// Rust's `gap as u16`.
+fn low_bits(gap: u64) -> u16
+    ensures { λ r. ⌜ r ≡ gap % 65536 ⌝ }
+{
+    (gap % 65_536) as u16
+}
+
+// The counter that is due after this one, or the one that was due where the frame is late.
+fn next_after(expected: u64, counter: u64) -> u64
+    ensures { λ r. ⌜ r ≡ nextAfter expected counter ⌝ }
+{
+    if expected <= counter {
+        saturating_add_u64(counter, 1)
+    } else {
+        expected
+    }
+}
+
+// The frames missing before this counter, if one was due.
+fn gap_at(expected_next: OptionU64, counter: u64) -> u64
+    ensures { λ r. ⌜ r ≡ gapAt «expected_next» counter ⌝ }
+{
+    match expected_next {
+        OptionU64::None => 0,
+        OptionU64::Some(expected) => saturating_sub(counter, expected),
+    }
+}
+
+// The mean length in 1/256 of a frame, by whole numbers. From 256 frames on it is past what 16 bits hold.
+pub fn mean_burst(total: u64, count: u32) -> u16
+    ensures { λ r. ⌜ r ≡ meanBurst total count ⌝ }
+{
+    if count == 0 {
+        return 0;
+    }
+    if 256 * count as u64 <= total {
+        return 65_535;
+    }
+    (256 * total / count as u64) as u16
+}
+
+impl GapTracker {
+    pub fn new() -> GapTracker
+        ensures { λ r. ⌜ r ≡ fresh ⌝ }
+    {
+        let expected_next = OptionU64::None;
+        GapTracker {
+            expected_next,
+            in_burst: false,
+            current_burst_len: 0,
+            burst_count: 0,
+            max_burst_len: 0,
+            total_burst_len: 0,
+        }
+    }
+
+    // The bursts that have ended: the one under way is counted already.
+    fn finished_bursts(self) -> u32
+        ensures { λ r. ⌜ r ≡ finishedBursts self ⌝ }
+    {
+        if self.in_burst {
+            saturating_sub(self.burst_count as u64, 1) as u32
+        } else {
+            self.burst_count
+        }
+    }
+
+    pub fn keeps_rule(self) -> bool
+        ensures { λ r. ⌜ r ≡ keepsRule self ⌝ }
+    {
+        let most = MAX_BURST_LEN * self.finished_bursts() as u64;
+        (self.in_burst | (self.current_burst_len == 0))
+            & (!self.in_burst | (1 <= self.burst_count))
+            & (self.total_burst_len <= most)
+    }
+
+    // Whether a frame of this counter begins a burst.
+    pub fn begins_burst(self, counter: u64) -> bool
+        ensures { λ r. ⌜ r ≡ beginsBurst self counter ⌝ }
+    {
+        let expected_next = self.expected_next;
+        !self.in_burst & (1 <= gap_at(expected_next, counter))
+    }
+
+    // Question 10, of the bursts: the count is raised only where this frame begins one.
+    pub fn bursts_ok(self, counter: u64) -> bool
+        ensures { λ r. ⌜ r ≡ burstsOk self counter ⌝ }
+    {
+        let begins = self.begins_burst(counter);
+        !begins | counter_u32_ok(self.burst_count, 1)
+    }
+
+    fn expecting(self, next: u64) -> GapTracker
+        ensures { λ r. ⌜ r ≡ expecting self next ⌝ }
+    {
+        let expected_next = OptionU64::Some(next);
+        GapTracker {
+            expected_next,
+            in_burst: self.in_burst,
+            current_burst_len: self.current_burst_len,
+            burst_count: self.burst_count,
+            max_burst_len: self.max_burst_len,
+            total_burst_len: self.total_burst_len,
+        }
+    }
+
+    // Finish the current burst and record its stats.
+    pub fn finish_burst(self) -> GapTracker
+        ensures { λ r. ⌜ r ≡ closed self ⌝ }
+    {
+        if self.in_burst {
+            let len = self.current_burst_len;
+            let mut t = self;
+            t.max_burst_len = longer(t.max_burst_len, len);
+            t.total_burst_len = saturating_add_u64(t.total_burst_len, len as u64);
+            t.in_burst = false;
+            t.current_burst_len = 0;
+            return t;
+        }
+        self
+    }
+
+    // A gap begins a burst, or extends the one under way.
+    fn missed(self, gap: u64) -> GapTracker
+        ensures { λ r. ⌜ r ≡ missed self gap ⌝ }
+    {
+        let len = low_bits(gap);
+        let mut t = self;
+        if self.in_burst {
+            t.current_burst_len = saturating_add_u16(self.current_burst_len, len);
+            return t;
+        }
+        t.in_burst = true;
+        t.current_burst_len = len;
+        t.burst_count = saturating_add(self.burst_count, 1);
+        t
+    }
+
+    // A frame in order ends a burst.
+    fn moved(self, gap: u64) -> GapTracker
+        ensures { λ r. ⌜ r ≡ moved self gap ⌝ }
+    {
+        if gap == 0 {
+            self.finish_burst()
+        } else {
+            self.missed(gap)
+        }
+    }
+
+    // Process a received counter value. The first frame only says which counter is due next.
+    pub fn observe(self, counter: u64) -> Observed
+        ensures { λ r. ⌜ r ≡ observed self counter ⌝ }
+    {
+        let expected_next = self.expected_next;
+        match expected_next {
+            OptionU64::None => {
+                let tracker = self.expecting(saturating_add_u64(counter, 1));
+                Observed { lost: 0, tracker }
+            }
+            OptionU64::Some(expected) => {
+                let lost = saturating_sub(counter, expected);
+                let next = next_after(expected, counter);
+                let tracker = self.moved(lost).expecting(next);
+                Observed { lost, tracker }
+            }
+        }
+    }
+
+    // Get interval stats and reset for next interval. An open burst ends.
+    pub fn take_interval_stats(self) -> IntervalStats
+        ensures { λ r. ⌜ r ≡ statsOf self ⌝ }
+    {
+        let ended = self.finish_burst();
+        let count = ended.burst_count;
+        let max = ended.max_burst_len;
+        let mean = mean_burst(ended.total_burst_len, count);
+        let mut tracker = ended;
+        tracker.burst_count = 0;
+        tracker.max_burst_len = 0;
+        tracker.total_burst_len = 0;
+        IntervalStats {
+            count,
+            max,
+            mean,
+            tracker,
+        }
+    }
+}

@@ -1,0 +1,3 @@
+pub mod QuestionsAnswered
+pub mod RuleKept
+pub mod FloatRoute

@@ -1,0 +1,79 @@
+-- What the rule says by its clauses, and what a call that nothing refuses knows of its record and its arguments.
+-- Assumes nothing.
+use mathlib.Core.Path.{_≡_, refl}
+use mathlib.Core.Bool.{true, _&&_, _||_, and-eq-true-iff}
+use mathlib.Core.List.{[], _∷_}
+use Prim.Native.Nat.{ℕ, _+_, _^_, _≤_, _<_}
+use lib.Dec.{eqb}
+use lib.IntN.{ℤ}
+use borrow.Author.Tests.{leb-true, ltb-true}
+use Rattle.refusals.specs.Questions.{question}
+use Rattle.refusals.specs.Ranges.{maxClock, maxFrame, clockOk, frameSizeOk, counterOk, smoothedOk}
+use Rattle.refusals.proofs.FirstNoFound.{each-yes}
+use Rattle.sender.specs.State.{keepsRule, Kept, newRefusal, refusalOf}
+use Rattle.sender.specs.Sent.{countersOk, sentRefusal}
+use Rattle.sender.specs.Backoff.{failureRefusal}
+use Rattle.sender.specs.Reports.{reportRefusal}
+use Rattle.sender.specs.Pacing.{boundsOk, fromSrttRefusal, withBoundsRefusal}
+use Rattle.sender.specs.declared.SenderState.{SenderState}
+
+-- ---- the rule
+pub kept : (s : SenderState) → keepsRule s ≡ true → Kept s
+unfolding keepsRule
+kept s h =
+    let p = and-eq-true-iff (clockOk (s .«last_report_ms») && clockOk (s .«report_interval_ms»)) (s .«has_last_report» || eqb (s .«last_report_ms») 0) .0 h in
+    let q = and-eq-true-iff (clockOk (s .«last_report_ms»)) (clockOk (s .«report_interval_ms»)) .0 (p .0) in
+    record { last-report = q .0; interval = q .1; none-no-time = p .1 }
+
+pub interval-at-most : (s : SenderState) → keepsRule s ≡ true → s .«report_interval_ms» ≤ maxClock
+interval-at-most s h = leb-true (s .«report_interval_ms») maxClock (kept s h .interval)
+
+-- ---- the questions of each call
+pub new-asked : (ms : ℕ) → newRefusal ms ≡ 0 → clockOk ms ≡ true
+unfolding newRefusal
+new-asked ms h = each-yes (question 2 (clockOk ms) ∷ []) refl h .0
+
+pub state-asked : (s : SenderState) → refusalOf s ≡ 0 → keepsRule s ≡ true
+unfolding refusalOf
+state-asked s h = each-yes (question 1 (keepsRule s) ∷ []) refl h .0
+
+-- a frame: the rule, the size, and the two sums that the lifetime's counters can hold
+pub record SentAsked (s : SenderState) (bytes : ℕ) : Type 0 where
+  pub rule : keepsRule s ≡ true
+  pub size : bytes ≤ maxFrame
+  pub packets-fit : s .«cumulative_packets_sent» + 1 < 2 ^ 64
+  pub bytes-fit : s .«cumulative_bytes_sent» + bytes < 2 ^ 64
+
+pub sent-asked : (s : SenderState) (bytes : ℕ) → sentRefusal s bytes ≡ 0 → SentAsked s bytes
+unfolding sentRefusal
+sent-asked s bytes h =
+    let y = each-yes (question 1 (keepsRule s) ∷ question 3 (frameSizeOk bytes) ∷ question 10 (countersOk s bytes) ∷ []) refl h in
+    let fit = and-eq-true-iff (counterOk 64 (s .«cumulative_packets_sent») 1) (counterOk 64 (s .«cumulative_bytes_sent») bytes) .0 (y .1 .1 .0) in
+    record {
+      rule = y .0;
+      size = leb-true bytes maxFrame (y .1 .0);
+      packets-fit = ltb-true (s .«cumulative_packets_sent» + 1) (2 ^ 64) (fit .0);
+      bytes-fit = ltb-true (s .«cumulative_bytes_sent» + bytes) (2 ^ 64) (fit .1);
+    }
+
+pub report-asked : (s : SenderState) (now : ℕ) → reportRefusal s now ≡ 0 → (keepsRule s ≡ true) × (clockOk now ≡ true)
+unfolding reportRefusal
+report-asked s now h = let y = each-yes (question 1 (keepsRule s) ∷ question 2 (clockOk now) ∷ []) refl h in (y .0, y .1 .0)
+
+pub failure-asked : (s : SenderState) → failureRefusal s ≡ 0 → (keepsRule s ≡ true) × (s .«consecutive_send_failures» + 1 < 2 ^ 32)
+unfolding failureRefusal
+failure-asked s h =
+    let y = each-yes (question 1 (keepsRule s) ∷ question 10 (counterOk 32 (s .«consecutive_send_failures») 1) ∷ []) refl h in
+    (y .0, ltb-true (s .«consecutive_send_failures» + 1) (2 ^ 32) (y .1 .0))
+
+pub from-srtt-asked : (s : SenderState) (srtt : ℤ) → fromSrttRefusal s srtt ≡ 0 → keepsRule s ≡ true
+unfolding fromSrttRefusal
+from-srtt-asked s srtt h = each-yes (question 1 (keepsRule s) ∷ question 8 (smoothedOk srtt) ∷ []) refl h .0
+
+-- bounds of the caller's: the rule, and both bounds in range
+pub with-bounds-asked : (s : SenderState) (srtt : ℤ) (lo hi : ℕ) → withBoundsRefusal s srtt lo hi ≡ 0 → (keepsRule s ≡ true) × (lo ≤ maxClock) × (hi ≤ maxClock)
+unfolding withBoundsRefusal
+with-bounds-asked s srtt lo hi h =
+    let y = each-yes (question 1 (keepsRule s) ∷ question 2 (clockOk lo && clockOk hi) ∷ question 8 (smoothedOk srtt) ∷ question 9 (boundsOk srtt lo hi) ∷ []) refl h in
+    let bounds = and-eq-true-iff (clockOk lo) (clockOk hi) .0 (y .1 .0) in
+    (y .0, leb-true lo maxClock (bounds .0), leb-true hi maxClock (bounds .1))

@@ -1,0 +1,142 @@
+-- Each call ends within the rule: a new record keeps it, and so does the record after any call that is accepted.
+-- Assumes nothing.
+use mathlib.Core.Path.{_≡_, refl}
+use mathlib.Core.Bool.{Bool, true, false, cond, _&&_, _||_, and-eq-true-iff}
+use Prim.Native.Nat.{ℕ, _*_, _/_, _≤_}
+use native.Mathlib.Omega.{arith}
+use lib.Dec.{leb, ltb, eqb}
+use lib.IntN.{ℤ}
+use borrow.Author.Tests.{le-leb, eqb-true, ltb-false}
+use Rattle.numbers.specs.Intervals.{clamped, floorAt, top, nextInterval}
+use Rattle.numbers.specs.Signs.{asUnsigned}
+use Rattle.refusals.specs.Ranges.{maxClock, clockOk}
+use Rattle.sender.specs.State.{keepsRule, Kept, startedAt, fresh, newRefusal, newOf}
+use Rattle.sender.specs.Sent.{begun, opened, counted, sent, sentOf}
+use Rattle.sender.specs.Backoff.{withFailures, failureOf, successOf}
+use Rattle.sender.specs.Reports.{reportOf, someBuilt, noneBuilt, built, reportRefusal, builtOf}
+use Rattle.sender.specs.Pacing.{withPace, paced, countedPace, fromSrttOf, withBoundsOf}
+use Rattle.sender.specs.declared.SenderState.{SenderState}
+use Rattle.sender.specs.declared.reports.SenderReportBuilt.{SenderReportBuilt}
+use Rattle.sender.proofs.QuestionsAnswered.{kept, interval-at-most, new-asked, state-asked, sent-asked, report-asked, failure-asked, from-srtt-asked, with-bounds-asked}
+
+-- the clauses make the rule
+keeps : (s : SenderState) → Kept s → keepsRule s ≡ true
+unfolding keepsRule
+keeps s k =
+    let l = clockOk (s .«last_report_ms») in
+    let i = clockOk (s .«report_interval_ms») in
+    and-eq-true-iff (l && i) (s .«has_last_report» || eqb (s .«last_report_ms») 0) .1 (and-eq-true-iff l i .1 (k .last-report, k .interval), k .none-no-time)
+
+-- ---- a new record
+pub fresh-keeps-rule : keepsRule fresh ≡ true
+unfolding keepsRule
+fresh-keeps-rule = refl
+
+-- refused or not: a refused constructor gives the default
+pub new-keeps-rule : (ms : ℕ) → keepsRule (newOf ms .state) ≡ true
+unfolding newOf
+new-keeps-rule ms = go (eqb (newRefusal ms) 0) refl
+  where
+    go : (b : Bool) → eqb (newRefusal ms) 0 ≡ b → keepsRule (cond b (startedAt ms) fresh) ≡ true
+    go true e = keeps (startedAt ms) (record { last-report = refl; interval = new-asked ms (eqb-true (newRefusal ms) 0 e); none-no-time = refl })
+    go false e = fresh-keeps-rule
+
+-- ---- a frame
+frame-keeps-rule : (s : SenderState) (counter timestamp bytes : ℕ) → keepsRule s ≡ true → keepsRule (sent s counter timestamp bytes) ≡ true
+unfolding sent opened keepsRule
+frame-keeps-rule s counter timestamp bytes h = go (s .«interval_has_data»)
+  where
+    go : (b : Bool) → keepsRule (counted (cond b s (begun s counter timestamp)) counter timestamp bytes) ≡ true
+    go true = h
+    go false = h
+
+pub sent-keeps-rule : (s : SenderState) (counter timestamp bytes : ℕ) → sentOf s counter timestamp bytes .refusal ≡ 0
+    → keepsRule (sentOf s counter timestamp bytes .state) ≡ true
+unfolding sentOf
+sent-keeps-rule s counter timestamp bytes h = rw h (frame-keeps-rule s counter timestamp bytes (sent-asked s bytes h .rule))
+
+-- ---- a report
+module _ (P : SenderReportBuilt → Type 0) (s : SenderState) (now : ℕ) where
+  by-data : P (someBuilt s now (reportOf s)) → P (noneBuilt 0 s) → P (built s now)
+  unfolding built
+  by-data some none = go (s .«interval_has_data»)
+    where
+      go : (b : Bool) → P (cond b (someBuilt s now (reportOf s)) (noneBuilt 0 s))
+      go true = some
+      go false = none
+
+report-ends-within : (s : SenderState) (now : ℕ) → keepsRule s ≡ true → clockOk now ≡ true → keepsRule (built s now .state) ≡ true
+report-ends-within s now h k =
+    by-data (λ r. keepsRule (r .state) ≡ true) s now
+    (keeps (someBuilt s now (reportOf s) .state) (record { last-report = k; interval = kept s h .interval; none-no-time = refl }))
+    h
+
+-- the refusal is that of the questions
+pub report-refusal : (s : SenderState) (now : ℕ) → builtOf s now .refusal ≡ reportRefusal s now
+unfolding builtOf
+report-refusal s now = go (reportRefusal s now) (eqb (reportRefusal s now) 0) (eqb-true (reportRefusal s now) 0)
+  where
+    go : (n : ℕ) (b : Bool) → (b ≡ true → n ≡ 0) → cond b (built s now) (noneBuilt n s) .refusal ≡ n
+    go n true f = rw (f refl) (by-data (λ r. r .refusal ≡ 0) s now refl refl)
+    go n false f = refl
+
+pub report-keeps-rule : (s : SenderState) (now : ℕ) → builtOf s now .refusal ≡ 0 → keepsRule (builtOf s now .state) ≡ true
+unfolding builtOf
+report-keeps-rule s now e =
+    let h : reportRefusal s now ≡ 0 = rw (report-refusal s now) at e in
+    let y = report-asked s now h in
+    rw h (report-ends-within s now (y .0) (y .1))
+
+-- ---- failures, successes
+failures-keep-rule : (s : SenderState) (n : ℕ) → keepsRule s ≡ true → keepsRule (withFailures s n) ≡ true
+unfolding keepsRule
+failures-keep-rule s n h = h
+
+pub failure-keeps-rule : (s : SenderState) → failureOf s .refusal ≡ 0 → keepsRule (failureOf s .state) ≡ true
+unfolding failureOf
+failure-keeps-rule s h = rw h (failures-keep-rule s _ (failure-asked s h .0))
+
+pub success-keeps-rule : (s : SenderState) → successOf s .refusal ≡ 0 → keepsRule (successOf s .state) ≡ true
+unfolding successOf
+success-keeps-rule s h = rw h (failures-keep-rule s 0 (state-asked s h))
+
+-- ---- the interval
+next-at-most : (interval us lo hi most : ℕ) → interval ≤ most → lo ≤ most → hi ≤ most → nextInterval interval us lo hi ≤ most
+unfolding nextInterval clamped
+next-at-most interval us lo hi most hs hl hh = go (eqb us 0) (ltb (us / 1000) lo) (ltb hi (us / 1000)) (ltb-false hi (us / 1000))
+  where
+    go : (a b c : Bool) → (c ≡ false → us / 1000 ≤ hi) → cond a interval (cond b lo (cond c hi (us / 1000))) ≤ most
+    go true b c f = hs
+    go false true c f = hl
+    go false false true f = hh
+    go false false false f = let l = f refl in omega arith
+
+pace-keeps-rule : (s : SenderState) (srtt : ℤ) (lo hi updates : ℕ) → keepsRule s ≡ true → lo ≤ maxClock → hi ≤ maxClock → keepsRule (paced s srtt lo hi updates) ≡ true
+unfolding paced
+pace-keeps-rule s srtt lo hi updates h hl hh =
+    let k = kept s h in
+    let next = nextInterval (s .«report_interval_ms») (2 * asUnsigned srtt) lo hi in
+    keeps (withPace s next updates)
+    (record {
+      last-report = k .last-report;
+      interval = le-leb next maxClock (next-at-most (s .«report_interval_ms») (2 * asUnsigned srtt) lo hi maxClock (interval-at-most s h) hl hh);
+      none-no-time = k .none-no-time;
+    })
+
+floor-at-most : (updates : ℕ) → floorAt updates ≤ maxClock
+unfolding floorAt
+floor-at-most updates = go (leb updates 5)
+  where
+    go : (b : Bool) → cond b 200 1000 ≤ maxClock
+    go true = omega arith
+    go false = omega arith
+
+pub from-srtt-keeps-rule : (s : SenderState) (srtt : ℤ) → fromSrttOf s srtt .refusal ≡ 0 → keepsRule (fromSrttOf s srtt .state) ≡ true
+unfolding fromSrttOf countedPace
+from-srtt-keeps-rule s srtt h = rw h (pace-keeps-rule s srtt _ top _ (from-srtt-asked s srtt h) (floor-at-most _) (omega arith))
+
+pub with-bounds-keeps-rule : (s : SenderState) (srtt : ℤ) (lo hi : ℕ) → withBoundsOf s srtt lo hi .refusal ≡ 0 → keepsRule (withBoundsOf s srtt lo hi .state) ≡ true
+unfolding withBoundsOf
+with-bounds-keeps-rule s srtt lo hi h =
+    let y = with-bounds-asked s srtt lo hi h in
+    rw h (pace-keeps-rule s srtt lo hi (s .«srtt_sample_count») (y .0) (y .1) (y .2))

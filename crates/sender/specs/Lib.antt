@@ -1,0 +1,5 @@
+pub mod State
+pub mod Sent
+pub mod Backoff
+pub mod Reports
+pub mod Pacing

@@ -1,0 +1,117 @@
+// A report is due, and built.
+
+ghost use mathlib.Core.Path.{_≡_};
+ghost use Prim.Native.Nat.{_≤_};
+ghost use Rattle.refusals.specs.Ranges.{maxClock};
+ghost use Rattle.sender.specs.Reports.{reportOf, noneBuilt, built, builtOf, isDue, shouldSendOf};
+use crate::SenderState;
+use crate::backoff::backoff_of;
+use numbers::saturating_sub;
+use refusals::answer::AnswerBool;
+use refusals::questions::Questions;
+use refusals::ranges::clock_ok;
+use wire::sender_report::SenderReport;
+use wire::sender_report::no_report;
+
+// A report, zeros where there is none, and the state after it.
+pub struct SenderReportBuilt {
+    pub refusal: u8,
+    pub some: bool,
+    pub report: SenderReport,
+    pub state: SenderState,
+}
+
+// No report: a refusal, or nothing sent.
+fn none_built(refusal: u8, state: SenderState) -> SenderReportBuilt
+    ensures { λ r. ⌜ r ≡ noneBuilt refusal state ⌝ }
+{
+    SenderReportBuilt {
+        refusal,
+        some: false,
+        report: no_report(),
+        state,
+    }
+}
+
+impl SenderState {
+    // The interval as a report says it.
+    fn report(self) -> SenderReport
+        ensures { λ r. ⌜ r ≡ reportOf self ⌝ }
+    {
+        SenderReport {
+            interval_start_counter: self.interval_start_counter,
+            interval_end_counter: self.last_counter,
+            interval_start_timestamp: self.interval_start_timestamp,
+            interval_end_timestamp: self.last_timestamp,
+            interval_bytes_sent: self.interval_bytes_sent,
+            cumulative_packets_sent: self.cumulative_packets_sent,
+            cumulative_bytes_sent: self.cumulative_bytes_sent,
+        }
+    }
+
+    // The report alone, for a caller that has asked its questions. It ends the interval.
+    fn build(self, now_ms: u64) -> SenderReportBuilt
+        ensures { λ r. ⌜ r ≡ built self «now_ms» ⌝ }
+    {
+        if self.interval_has_data {
+            let report = self.report();
+            let mut state = self;
+            state.interval_has_data = false;
+            state.interval_bytes_sent = 0;
+            state.has_last_report = true;
+            state.last_report_ms = now_ms;
+            SenderReportBuilt {
+                refusal: 0,
+                some: true,
+                report,
+                state,
+            }
+        } else {
+            none_built(0, self)
+        }
+    }
+
+    // No report where no frame has been sent since the last one.
+    pub fn build_report(self, now_ms: u64) -> SenderReportBuilt
+        ensures { λ r. ⌜ r ≡ builtOf self «now_ms» ⌝ }
+    {
+        let mut q = Questions::all_yes();
+        q.state = self.keeps_rule();
+        q.clocks = clock_ok(now_ms);
+        let refusal = q.first_no();
+        if refusal == 0 {
+            self.build(now_ms)
+        } else {
+            none_built(refusal, self)
+        }
+    }
+
+    // Frames have been sent, and the effective interval has passed since the last report, if there was one.
+    fn due(self, now_ms: u64) -> bool
+        requires { ⌜ self .«report_interval_ms» ≤ maxClock ⌝ }
+        ensures { λ r. ⌜ r ≡ isDue self «now_ms» ⌝ }
+    {
+        let effective_ms = self.report_interval_ms * backoff_of(self.consecutive_send_failures);
+        let since_ms = saturating_sub(now_ms, self.last_report_ms);
+        self.interval_has_data & (!self.has_last_report | (effective_ms <= since_ms))
+    }
+
+    // Whether it is time to send a report.
+    pub fn should_send_report(self, now_ms: u64) -> AnswerBool
+        ensures { λ r. ⌜ r ≡ shouldSendOf self «now_ms» ⌝ }
+    {
+        let mut q = Questions::all_yes();
+        q.state = self.keeps_rule();
+        q.clocks = clock_ok(now_ms);
+        let refusal = q.first_no();
+        if refusal == 0 {
+            let value = self.due(now_ms);
+            AnswerBool { refusal, value }
+        } else {
+            AnswerBool {
+                refusal,
+                value: false,
+            }
+        }
+    }
+}
