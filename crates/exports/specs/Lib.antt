@@ -1,0 +1,2 @@
+pub mod PayloadCheck
+pub mod Figures

@@ -1,0 +1,227 @@
+// Tables of numbers and bytes. Every function is total: what lies past the end reads as 0, and what has no room is left out.
+use codec::fields::bits32;
+use codec::fields::signed32;
+use numbers::signs::signed;
+use numbers::signs::unsigned;
+use refusals::answer::AnswerBool;
+use refusals::answer::AnswerF64;
+
+pub fn first(s: &[u64], n: usize) -> &[u64] {
+    if n <= s.len() {
+        return &s[0..n];
+    }
+    s
+}
+
+pub fn first_bytes(s: &[u8], n: usize) -> &[u8] {
+    if n <= s.len() {
+        return &s[0..n];
+    }
+    s
+}
+
+pub fn lent(s: &mut [u8], n: usize) -> &mut [u8] {
+    if n <= s.len() {
+        return &mut s[0..n];
+    }
+    s
+}
+
+pub fn u64_of(given: &[u64], i: usize) -> u64 {
+    if i < given.len() {
+        return given[i];
+    }
+    0
+}
+
+pub fn usize_of(given: &[u64], i: usize) -> usize {
+    u64_of(given, i) as usize
+}
+
+pub fn u32_of(given: &[u64], i: usize) -> u32 {
+    (u64_of(given, i) % 4294967296) as u32
+}
+
+pub fn u16_of(given: &[u64], i: usize) -> u16 {
+    (u64_of(given, i) % 65536) as u16
+}
+
+pub fn u8_of(given: &[u64], i: usize) -> u8 {
+    (u64_of(given, i) % 256) as u8
+}
+
+pub fn wide(x: usize) -> u64 {
+    x as u64
+}
+
+pub fn wide_u32(x: u32) -> u64 {
+    x as u64
+}
+
+pub fn wide_u16(x: u16) -> u64 {
+    x as u64
+}
+
+pub fn wide_u8(x: u8) -> u64 {
+    x as u64
+}
+
+// The number whose 64-bit pattern is given.
+pub fn i32_of(given: &[u64], i: usize) -> i32 {
+    signed32(u32_of(given, i))
+}
+
+// The 64-bit pattern.
+pub fn pattern(z: i32) -> u64 {
+    let low = bits32(z) as u64;
+    if 0 <= z {
+        return low;
+    }
+    18446744069414584320 + low
+}
+
+// The number whose 64-bit pattern is given.
+pub fn i64_of(given: &[u64], i: usize) -> i64 {
+    signed(u64_of(given, i))
+}
+
+// The 64-bit pattern.
+pub fn pattern64(z: i64) -> u64 {
+    if 0 <= z {
+        return unsigned(z);
+    }
+    18446744073709551615 - unsigned(!z)
+}
+
+// The float of a 64-bit pattern. Every NaN's pattern, above that of infinity but for the sign, gives a NaN.
+pub fn f64_of(given: &[u64], i: usize) -> f64 {
+    let bits = u64_of(given, i);
+    if bits % 9223372036854775808 > 9218868437227405312 {
+        return 0.0 / 0.0;
+    }
+    f64::from_bits(bits)
+}
+
+// The pattern of a float, one for every NaN.
+pub fn float_pattern(x: f64) -> u64 {
+    if x != x {
+        return 9221120237041090560;
+    }
+    f64::to_bits(x)
+}
+
+pub fn flag_of(given: &[u64], i: usize) -> bool {
+    u64_of(given, i) == 1
+}
+
+pub fn flag(b: bool) -> u64 {
+    if b { 1 } else { 0 }
+}
+
+// The place after a buffer whose length stands at `at`.
+pub fn after_bytes(given: &[u64], at: usize) -> usize {
+    let n = usize_of(given, at);
+    if at < given.len() {
+        if n < given.len() - at {
+            return at + n + 1;
+        }
+    }
+    given.len()
+}
+
+fn store(room: &mut [u8], i: usize, b: u8) {
+    if i < room.len() {
+        room[i] = b;
+    }
+}
+
+// Takes the bytes whose length stands at `at`, as far as there is room, and answers how many.
+pub fn bytes_of(given: &[u64], at: usize, room: &mut [u8]) -> usize {
+    let n = usize_of(given, at);
+    let mut from = at;
+    let mut i = 0;
+    while i < room.len() {
+        if i >= n {
+            break;
+        }
+        if from >= given.len() {
+            break;
+        }
+        from += 1;
+        store(room, i, u8_of(given, from));
+        i += 1;
+    }
+    i
+}
+
+// Puts a number behind the n that are there, and answers how many there are now.
+pub fn push(answer: &mut [u64], n: usize, x: u64) -> usize {
+    if n < answer.len() {
+        answer[n] = x;
+        return n + 1;
+    }
+    n
+}
+
+// The numbers behind the n that are there.
+pub fn push_all(answer: &mut [u64], n: usize, s: &[u64]) -> usize {
+    let mut count = n;
+    let mut i = 0;
+    while i < s.len() {
+        count = push(answer, count, s[i]);
+        i += 1;
+    }
+    count
+}
+
+// The bytes alone.
+pub fn push_bytes(answer: &mut [u64], n: usize, s: &[u8]) -> usize {
+    let mut count = n;
+    let mut i = 0;
+    while i < s.len() {
+        count = push(answer, count, wide_u8(s[i]));
+        i += 1;
+    }
+    count
+}
+
+// The length and the bytes.
+pub fn push_buffer(answer: &mut [u64], n: usize, s: &[u8]) -> usize {
+    let next = push(answer, n, wide(s.len()));
+    push_bytes(answer, next, s)
+}
+
+// The bytes from `start` to before `end`, with their length.
+pub fn push_span(answer: &mut [u64], n: usize, s: &[u8], start: usize, end: usize) -> usize {
+    if start <= end {
+        if end <= s.len() {
+            return push_buffer(answer, n, &s[start..end]);
+        }
+    }
+    n
+}
+
+// Answers of a few numbers, 0 behind them.
+pub fn one(a: u64) -> [u64; 8] {
+    [a, 0, 0, 0, 0, 0, 0, 0]
+}
+
+pub fn two(a: u64, b: u64) -> [u64; 8] {
+    [a, b, 0, 0, 0, 0, 0, 0]
+}
+
+pub fn three(a: u64, b: u64, c: u64) -> [u64; 8] {
+    [a, b, c, 0, 0, 0, 0, 0]
+}
+
+pub fn four(a: u64, b: u64, c: u64, d: u64) -> [u64; 8] {
+    [a, b, c, d, 0, 0, 0, 0]
+}
+
+pub fn of_bool(a: AnswerBool) -> [u64; 8] {
+    two(wide_u8(a.refusal), flag(a.value))
+}
+
+pub fn of_f64(a: AnswerF64) -> [u64; 8] {
+    two(wide_u8(a.refusal), float_pattern(a.value))
+}

@@ -1,0 +1,23 @@
+//! Links libexports.a, which `rt staticlib exports` writes. RATTLE_LIBS names its folder, else target/staticlib at the top.
+
+use std::path::{Path, PathBuf};
+use std::{env, process};
+
+fn main() {
+    println!("cargo::rerun-if-env-changed=RATTLE_LIBS");
+    let dir = match env::var_os("RATTLE_LIBS") {
+        Some(dir) => PathBuf::from(dir),
+        None => Path::new(env!("CARGO_MANIFEST_DIR")).join("../../target/staticlib"),
+    };
+    let archive = dir.join("libexports.a");
+    if !archive.exists() {
+        eprintln!(
+            "exports: {} is missing: run `rt staticlib exports` at the top of the repository first",
+            archive.display()
+        );
+        process::exit(1);
+    }
+    println!("cargo::rerun-if-changed={}", archive.display());
+    println!("cargo::rustc-link-search=native={}", dir.display());
+    println!("cargo::rustc-link-lib=static=exports");
+}

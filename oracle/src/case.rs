@@ -1,0 +1,106 @@
+//! A line of the script with the answer that is expected, and how it is come by.
+
+use std::cell::Cell;
+use std::panic::{self, AssertUnwindSafe};
+
+pub enum Answer {
+    Numbers(Vec<u64>),
+    Malformed,
+}
+
+pub struct Case {
+    /// 0 for a line that is malformed.
+    pub call: u64,
+    pub line: String,
+    pub answer: Answer,
+    /// The commit panics here or has nothing to refuse with: the answer is the rule of docs/REPLAY.md.
+    pub outside: bool,
+}
+
+impl Case {
+    pub fn new(line: Numbers, (answer, outside): (Numbers, bool)) -> Self {
+        Self {
+            call: line.0[0],
+            line: joined(&line.0),
+            answer: Answer::Numbers(answer.0),
+            outside,
+        }
+    }
+
+    pub fn malformed(line: String) -> Self {
+        Self {
+            call: 0,
+            line,
+            answer: Answer::Malformed,
+            outside: true,
+        }
+    }
+
+    /// The same line with zeros before each number.
+    pub fn with_zeros(mut self) -> Self {
+        self.line = format!("0{}", self.line.replace(' ', " 000"));
+        self
+    }
+
+    /// The answer to line number n.
+    pub fn expected(&self, n: usize) -> String {
+        match &self.answer {
+            Answer::Numbers(numbers) => joined(numbers),
+            Answer::Malformed => format!("malformed {n}"),
+        }
+    }
+}
+
+fn joined(numbers: &[u64]) -> String {
+    let words: Vec<String> = numbers.iter().map(u64::to_string).collect();
+    words.join(" ")
+}
+
+/// The numbers of a line or of an answer.
+#[derive(Clone)]
+pub struct Numbers(pub Vec<u64>);
+
+impl Numbers {
+    pub fn of(numbers: &[u64]) -> Self {
+        Self(numbers.to_vec())
+    }
+
+    pub fn and(mut self, numbers: &[u64]) -> Self {
+        self.0.extend(numbers);
+        self
+    }
+
+    /// The bytes with their length before them.
+    pub fn buffer(mut self, bytes: &[u8]) -> Self {
+        self.0.push(bytes.len() as u64);
+        self.0.extend(bytes.iter().map(|b| u64::from(*b)));
+        self
+    }
+}
+
+/// A signed number's 64-bit pattern.
+pub fn pattern(z: i32) -> u64 {
+    i64::from(z) as u64
+}
+
+thread_local! {
+    static IN_COMMIT: Cell<bool> = const { Cell::new(false) };
+}
+
+/// A panic of the commit is an answer, and prints nothing.
+pub fn hush_commit() {
+    let usual = panic::take_hook();
+    panic::set_hook(Box::new(move |info| {
+        if !IN_COMMIT.get() {
+            usual(info);
+        }
+    }));
+}
+
+/// What the commit answers, or `None` where it panics.
+pub fn commit<T>(call: impl FnOnce() -> T) -> Option<T> {
+    IN_COMMIT.set(true);
+    let answer = panic::catch_unwind(AssertUnwindSafe(call)).ok();
+    IN_COMMIT.set(false);
+    answer
+}

@@ -1,0 +1,271 @@
+//! Calls 331 to 336: `OwdTrendDetector`.
+
+use std::collections::VecDeque;
+
+use crate::case::{pattern, Case, Numbers};
+use crate::figures::{about, asked, first_no, near, MAX_US};
+use crate::owd_ring::Ring;
+use crate::proto::mmp::algorithms::oracle_access::{owd, owd_window};
+use crate::proto::mmp::algorithms::OwdTrendDetector;
+use crate::rng::Rng;
+
+fn new(capacity: u64) -> Case {
+    let (clamped, live) = owd_window(&OwdTrendDetector::new(capacity as usize));
+    let answer = Numbers::of(&[clamped as u64, live.len() as u64, 0]);
+    Case::new(Numbers::of(&[331, capacity]), (answer, false))
+}
+
+/// The commit's window is empty after it, whatever it was.
+fn clear(r: &Ring) -> Case {
+    let answer = asked(first_no(&[(1, r.keeps())]), &r.state(), || {
+        let mut c = owd(r.capacity, VecDeque::from(vec![(1, 2)]));
+        c.clear();
+        let (capacity, live) = owd_window(&c);
+        vec![capacity as u64, live.len() as u64, 0]
+    });
+    Case::new(Numbers::of(&[332]).and(&r.state()), answer)
+}
+
+fn push(r: &Ring, at_ms: u32, owd_us: i64) -> Case {
+    let with_windows = |ring: &Ring| [ring.state().to_vec(), ring.windows()].concat();
+    let answer = asked(r.push_refusal(owd_us), &with_windows(r), || with_windows(&r.pushed(at_ms, owd_us)));
+    let line = Numbers::of(&[333]).and(&r.state()).and(&[at_ms.into(), owd_us as u64]);
+    Case::new(line.and(&r.windows()), answer)
+}
+
+fn trend(r: &Ring) -> Case {
+    let answer = asked(r.trend_refusal(), &[0], || vec![pattern(r.commit().trend_us_per_sec())]);
+    Case::new(Numbers::of(&[334]).and(&r.state()).and(&r.windows()), answer)
+}
+
+fn keeps_rule(r: &Ring) -> Case {
+    Case::new(Numbers::of(&[335]).and(&r.state()), (Numbers::of(&[r.keeps().into()]), true))
+}
+
+fn windows_ok(r: &Ring, times: u64, delays: u64) -> Case {
+    let yes = times == r.capacity as u64 && delays == r.capacity as u64;
+    let line = Numbers::of(&[336]).and(&r.state()).and(&[times, delays]);
+    Case::new(line, (Numbers::of(&[yes.into()]), true))
+}
+
+/// How a window's numbers run.
+enum Run {
+    /// Times that rise, delays about a line.
+    Link,
+    /// Small numbers.
+    Small,
+    /// All at one time.
+    OneTime,
+    /// Times of any kind, delays out to the bounds.
+    Wide,
+}
+
+fn ring(rng: &mut Rng, capacity: usize, count: usize, first: usize, run: &Run) -> Ring {
+    let slope = rng.below(4001) as i64 - 2000;
+    let start = rng.number(4) as u32 / 2;
+    let mut all = Ring {
+        capacity,
+        count,
+        first,
+        times: vec![0; capacity],
+        delays: vec![0; capacity],
+    };
+    for k in 0..capacity {
+        let slot = (first + k) % capacity;
+        let (t, d) = match run {
+            Run::Link => (start + 100 * k as u32, slope * k as i64 + rng.below(500) as i64),
+            Run::Small => (rng.below(10) as u32, rng.below(10) as i64),
+            Run::OneTime => (start, rng.below(1000) as i64),
+            Run::Wide => (rng.number(4) as u32, wide_delay(rng)),
+        };
+        all.times[slot] = t;
+        all.delays[slot] = d;
+    }
+    all
+}
+
+/// Within ±2^42, often at an end.
+fn wide_delay(rng: &mut Rng) -> i64 {
+    let size = match rng.below(3) {
+        0 => MAX_US - rng.below(3) as i64,
+        1 => rng.below(1000) as i64,
+        _ => (rng.draw() % (MAX_US as u64 + 1)) as i64,
+    };
+    if rng.below(2) == 0 {
+        size
+    } else {
+        -size
+    }
+}
+
+fn any_run(rng: &mut Rng) -> Run {
+    match rng.below(8) {
+        0 => Run::OneTime,
+        1 => Run::Small,
+        2..=4 => Run::Wide,
+        _ => Run::Link,
+    }
+}
+
+/// States that break a clause of the rule, one each.
+fn lawless() -> [Ring; 9] {
+    let of = |capacity, count, first, len| Ring {
+        capacity,
+        count,
+        first,
+        times: vec![5; len],
+        delays: vec![6; len],
+    };
+    [
+        of(0, 0, 0, 0),
+        of(1, 1, 0, 1),
+        of(4097, 2, 0, 3),
+        of(2, 3, 0, 2),
+        of(3, 1, 3, 3),
+        of(3, usize::MAX, 2, 3),
+        of(3, 2, usize::MAX, 3),
+        of(usize::MAX, 2, 0, 2),
+        of(1 << 32 | 3, 1, 1, 3),
+    ]
+}
+
+pub fn boundary_cases(rng: &mut Rng) -> Vec<Case> {
+    let mut cases = Vec::from([0, 1, 2, 3, 32, 4095, 4096, 4097, 1 << 32, u64::MAX].map(new));
+    for r in lawless() {
+        cases.extend([push(&r, 1, 1), trend(&r), clear(&r), keeps_rule(&r), push(&r, 1, MAX_US + 1)]);
+    }
+    for capacity in [2, 3, 32] {
+        for count in [0, 1, 2, capacity / 2, capacity - 1, capacity] {
+            for first in [0, 1, capacity / 2, capacity - 1] {
+                for run in [Run::Link, Run::Small, Run::OneTime, Run::Wide] {
+                    if capacity == 32 && (first == 1 || matches!(run, Run::OneTime)) {
+                        continue;
+                    }
+                    let r = ring(rng, capacity, count, first, &run);
+                    cases.push(trend(&r));
+                    if capacity < 32 || count >= 31 {
+                        cases.push(push(&r, rng.number(4) as u32, wide_delay(rng)));
+                    }
+                    cases.extend([clear(&r), keeps_rule(&r)]);
+                }
+            }
+        }
+    }
+    cases.extend(about_samples(rng));
+    let r = ring(rng, 4, 2, 3, &Run::Small);
+    for (times, delays) in [(4, 4), (3, 4), (4, 5), (0, 0), (u64::MAX, 4)] {
+        cases.push(windows_ok(&r, times, delays));
+    }
+    let full = ring(rng, 4096, 4096, 4095, &Run::Small);
+    cases.extend([push(&full, 1, 1), trend(&full)]);
+    cases
+}
+
+/// Delays at the bounds, pushed, live and dead; windows that are too long or too short; slopes beyond i32.
+fn about_samples(rng: &mut Rng) -> Vec<Case> {
+    let mut cases = vec![];
+    let r = ring(rng, 4, 2, 3, &Run::Small);
+    for d in about(MAX_US) {
+        cases.push(push(&r, 9, d));
+        for slot in 0..4 {
+            let mut one = r.clone();
+            one.delays[slot] = d;
+            cases.extend([trend(&one), push(&one, 9, 9)]);
+        }
+    }
+    for (times, delays) in [(3, 4), (4, 3), (5, 4), (4, 5), (3, 3), (5, 5), (0, 4), (0, 0)] {
+        let mut one = r.clone();
+        one.times.resize(times, 1);
+        one.delays.resize(delays, 1);
+        cases.extend([trend(&one), push(&one, 9, 9), push(&one, 9, MAX_US + 1)]);
+    }
+    for (early, late) in [
+        (-MAX_US, MAX_US),
+        (MAX_US, -MAX_US),
+        (0, 2_147_483),
+        (0, 2_147_484),
+        (0, -2_147_484),
+    ] {
+        for ms in [0, 1, 2, 1000, u32::MAX] {
+            let mut one = ring(rng, 2, 2, 1, &Run::Small);
+            one.times = vec![ms, 0];
+            one.delays = vec![late, early];
+            cases.push(trend(&one));
+        }
+    }
+    cases
+}
+
+/// A capacity: mostly small.
+fn capacity(rng: &mut Rng) -> usize {
+    match rng.below(200) {
+        0 => 4096,
+        1..=9 => 33 + rng.below(200),
+        10..=49 => 32,
+        50..=89 => 2,
+        _ => 2 + rng.below(12),
+    }
+}
+
+fn any_ring(rng: &mut Rng) -> Ring {
+    let capacity = capacity(rng);
+    let count = if rng.below(2) == 0 { capacity } else { rng.below(capacity + 1) };
+    let run = any_run(rng);
+    let first = rng.below(capacity);
+    ring(rng, capacity, count, first, &run)
+}
+
+/// A ring with something about it that may be refused.
+fn spoilt(rng: &mut Rng) -> Ring {
+    let mut r = any_ring(rng);
+    let slot = rng.below(r.capacity);
+    match rng.below(6) {
+        0 => r.delays[slot] = near(rng, MAX_US).wrapping_neg(),
+        1 => r.delays[slot] = rng.draw() as i64,
+        2 => {
+            r.times.pop();
+        }
+        3 => r.delays.push(1),
+        4 => r.count = rng.number(8) as usize,
+        _ => r.first = rng.number(8) as usize,
+    }
+    r
+}
+
+pub fn random_case(rng: &mut Rng) -> Case {
+    let r = if rng.below(4) == 0 { spoilt(rng) } else { any_ring(rng) };
+    match rng.below(16) {
+        0 => new(rng.number(8)),
+        1 => clear(&r),
+        2 => keeps_rule(&r),
+        3 => windows_ok(&r, r.capacity as u64, rng.number(2)),
+        4..=7 => {
+            let d = if rng.below(4) == 0 { near(rng, MAX_US) } else { wide_delay(rng) };
+            push(&r, rng.number(4) as u32, d)
+        }
+        _ => trend(&r),
+    }
+}
+
+/// Pushes, each on what the last one left, with the trend beside them; seldom a clear.
+pub fn history(rng: &mut Rng) -> Vec<Case> {
+    let capacity = 2 + rng.below(9);
+    let mut r = ring(rng, capacity, 0, 0, &Run::Wide);
+    let mut cases = vec![];
+    let mut at_ms = rng.number(4) as u32;
+    for _ in 0..rng.below(40) {
+        at_ms = at_ms.wrapping_add(rng.below(300) as u32);
+        let d = if rng.below(3) == 0 {
+            wide_delay(rng)
+        } else {
+            rng.below(2000) as i64
+        };
+        cases.extend([push(&r, at_ms, d), trend(&r)]);
+        r = r.pushed(at_ms, d);
+        if rng.below(30) == 0 {
+            cases.push(clear(&r));
+            (r.count, r.first) = (0, 0);
+        }
+    }
+    cases
+}
