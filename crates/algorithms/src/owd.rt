@@ -2,7 +2,7 @@
 
 ghost use mathlib.Core.Path.{_≡_};
 ghost use mathlib.Core.Bool.{true};
-ghost use Prim.Native.Nat.{_+_, _≤_, _<_, min};
+ghost use Prim.Native.Nat.{_+_, _<_, min};
 ghost use Rattle.floats.specs.Operations.{zero-float};
 ghost use Rattle.algorithms.specs.Owd.{Rule, Lent, keepsRule, windowsOk, empty, newOf, clearAnswer, wrapped, free, grown, pushRefusal, pushAnswer, stored, window, samplesOk};
 ghost use Rattle.algorithms.specs.OwdTrend.{time, delay, product, total, Summed, trendFrom, liveTrend, trendAnswer};

@@ -1,13 +1,12 @@
 -- The length answer by the test that decides it, and what it says of the test. Assumes nothing.
 use Prim.Native.Nat.{ℕ, _+_, _-_, _≤_, _<_}
-use mathlib.Core.Path.{_≡_, refl, sym, ap, _∙_}
+use mathlib.Core.Path.{_≡_, refl}
 use mathlib.Core.Bool.{Bool, true, false, cond}
 use mathlib.Core.List.{List}
 use native.Mathlib.Omega.{arith}
 use lib.ListN.{length}
 use borrow.Author.Tests.{le-leb, lt-leb, leb-true}
 use Rattle.codec.specs.Reading.{within, neededFor, lengthAnswer}
-use Rattle.codec.specs.declared.reader.Length.{Length}
 use Rattle.codec.specs.declared.reader.Length.the-variants.{Enough, TooShort}
 
 picked-enough : (t : Bool) (a b : ℕ) → cond t Enough (TooShort a b) ≡ Enough → t ≡ true

@@ -1,6 +1,6 @@
 -- What `Reader`'s methods answer (codec.rs; document 01, check 7), over the bytes of the payload and the place.
 use Prim.Native.Nat.{ℕ, _+_, _-_, min}
-use mathlib.Core.Bool.{Bool, true, false, cond}
+use mathlib.Core.Bool.{Bool, cond}
 use mathlib.Core.List.{List}
 use lib.ListN.{length, take, drop, replicate}
 use lib.Dec.{leb}

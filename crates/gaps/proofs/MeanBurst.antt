@@ -22,7 +22,7 @@ use Rattle.floats.proofs.At.{At}
 use Rattle.floats.proofs.Products.{mul-at}
 use Rattle.floats.proofs.Quotients.{div-is}
 use Rattle.floats.specs.Operations.{rounded-quotient}
-use Rattle.gaps.specs.Gaps.{maxLength, keepsRule, Fits, finishedBursts, closed}
+use Rattle.gaps.specs.Gaps.{maxLength, keepsRule, Fits, closed}
 use Rattle.gaps.specs.Stats.{meanBurst, floatRoute, statsOf}
 use Rattle.gaps.specs.declared.GapTracker.{GapTracker}
 use Rattle.gaps.proofs.RuleKept.{kept, closed-kept, closed-outside, finished-outside}

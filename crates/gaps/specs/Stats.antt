@@ -2,7 +2,6 @@
 use mathlib.Core.Bool.{cond}
 use Prim.Native.Nat.{ℕ, _*_, _/_, min}
 use lib.Dec.{eqb}
-use lib.IntN.{pos}
 use lib.Ieee.{Format, mul, toUnsigned}
 use Rattle.floats.specs.Operations.{rounded-quotient}
 use Rattle.refusals.specs.Ranges.{float}

@@ -3,7 +3,7 @@
 ghost use mathlib.Core.Path.{_≡_};
 ghost use Prim.Native.Nat.{_+_, _%_, min, max};
 ghost use Rattle.gaps.specs.Gaps.{keepsRule, finishedBursts, fresh, gapAt, beginsBurst, burstsOk, expecting, nextAfter, closed, missed, moved, observed};
-ghost use Rattle.gaps.specs.Stats.{meanBurst, cleared, statsOf};
+ghost use Rattle.gaps.specs.Stats.{meanBurst, statsOf};
 use numbers::saturating_add;
 use numbers::saturating_sub;
 use refusals::option::OptionU64;

@@ -5,3 +5,4 @@ pub mod RoundTripStaysTied
 pub mod JitterStaysNear
 pub mod NeverBelowNeedsEighths
 pub mod SignTold
+pub mod IntervalAtMost

@@ -1,3 +1,4 @@
 pub mod PickedByTest
 pub mod FirstNoFound
+pub mod Clauses
 mod RoomLeft

@@ -1,5 +1,5 @@
 -- The numbers that the questions of document 01, "Before any figure: the checks", allow. Definitions only.
-use mathlib.Core.Bool.{Bool, true, false, _&&_}
+use mathlib.Core.Bool.{Bool, true, false, _&&_, _||_}
 use Prim.Native.Nat.{ℕ, _+_, _-_, _^_}
 use lib.Dec.{leb, ltb}
 use lib.IntN.{ℤ, pos, negℤ}
@@ -61,6 +61,10 @@ roundTripOk us = leZ (pos 0) us && leZ us maxDelay
 -- question 8: a smoothed value for scheduling, at most 2^42 µs
 abbrev pub smoothedOk : ℤ → Bool
 smoothedOk us = leZ us maxDelay
+
+-- question 9: the lower interval bound is at most the upper. "A smoothed value of 0 or less skips 8 and 9"
+abbrev pub boundsOk : ℤ → ℕ → ℕ → Bool
+boundsOk srtt lo hi = leZ srtt (pos 0) || leb lo hi
 
 -- question 10: a counter of so many bits can hold the sum with what it gains
 abbrev pub counterOk : ℕ → ℕ → ℕ → Bool

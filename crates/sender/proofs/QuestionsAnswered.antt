@@ -8,13 +8,13 @@ use lib.Dec.{eqb}
 use lib.IntN.{ℤ}
 use borrow.Author.Tests.{leb-true, ltb-true}
 use Rattle.refusals.specs.Questions.{question}
-use Rattle.refusals.specs.Ranges.{maxClock, maxFrame, clockOk, frameSizeOk, counterOk, smoothedOk}
+use Rattle.refusals.specs.Ranges.{maxClock, maxFrame, clockOk, frameSizeOk, counterOk, smoothedOk, boundsOk}
 use Rattle.refusals.proofs.FirstNoFound.{each-yes}
 use Rattle.sender.specs.State.{keepsRule, Kept, newRefusal, refusalOf}
 use Rattle.sender.specs.Sent.{countersOk, sentRefusal}
 use Rattle.sender.specs.Backoff.{failureRefusal}
 use Rattle.sender.specs.Reports.{reportRefusal}
-use Rattle.sender.specs.Pacing.{boundsOk, fromSrttRefusal, withBoundsRefusal}
+use Rattle.sender.specs.Pacing.{fromSrttRefusal, withBoundsRefusal}
 use Rattle.sender.specs.declared.SenderState.{SenderState}
 
 -- ---- the rule

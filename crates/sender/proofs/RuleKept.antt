@@ -2,13 +2,14 @@
 -- Assumes nothing.
 use mathlib.Core.Path.{_≡_, refl}
 use mathlib.Core.Bool.{Bool, true, false, cond, _&&_, _||_, and-eq-true-iff}
-use Prim.Native.Nat.{ℕ, _*_, _/_, _≤_}
+use Prim.Native.Nat.{ℕ, _*_, _≤_}
 use native.Mathlib.Omega.{arith}
-use lib.Dec.{leb, ltb, eqb}
+use lib.Dec.{eqb}
 use lib.IntN.{ℤ}
-use borrow.Author.Tests.{le-leb, eqb-true, ltb-false}
-use Rattle.numbers.specs.Intervals.{clamped, floorAt, top, nextInterval}
+use borrow.Author.Tests.{le-leb, eqb-true}
+use Rattle.numbers.specs.Intervals.{top, updateCounted, nextInterval}
 use Rattle.numbers.specs.Signs.{asUnsigned}
+use Rattle.numbers.proofs.IntervalAtMost.{next-at-most, floor-at-most}
 use Rattle.refusals.specs.Ranges.{maxClock, clockOk}
 use Rattle.sender.specs.State.{keepsRule, Kept, startedAt, fresh, newRefusal, newOf}
 use Rattle.sender.specs.Sent.{begun, opened, counted, sent, sentOf}
@@ -101,16 +102,6 @@ unfolding successOf
 success-keeps-rule s h = rw h (failures-keep-rule s 0 (state-asked s h))
 
 -- ---- the interval
-next-at-most : (interval us lo hi most : ℕ) → interval ≤ most → lo ≤ most → hi ≤ most → nextInterval interval us lo hi ≤ most
-unfolding nextInterval clamped
-next-at-most interval us lo hi most hs hl hh = go (eqb us 0) (ltb (us / 1000) lo) (ltb hi (us / 1000)) (ltb-false hi (us / 1000))
-  where
-    go : (a b c : Bool) → (c ≡ false → us / 1000 ≤ hi) → cond a interval (cond b lo (cond c hi (us / 1000))) ≤ most
-    go true b c f = hs
-    go false true c f = hl
-    go false false true f = hh
-    go false false false f = let l = f refl in omega arith
-
 pace-keeps-rule : (s : SenderState) (srtt : ℤ) (lo hi updates : ℕ) → keepsRule s ≡ true → lo ≤ maxClock → hi ≤ maxClock → keepsRule (paced s srtt lo hi updates) ≡ true
 unfolding paced
 pace-keeps-rule s srtt lo hi updates h hl hh =
@@ -123,17 +114,9 @@ pace-keeps-rule s srtt lo hi updates h hl hh =
       none-no-time = k .none-no-time;
     })
 
-floor-at-most : (updates : ℕ) → floorAt updates ≤ maxClock
-unfolding floorAt
-floor-at-most updates = go (leb updates 5)
-  where
-    go : (b : Bool) → cond b 200 1000 ≤ maxClock
-    go true = omega arith
-    go false = omega arith
-
 pub from-srtt-keeps-rule : (s : SenderState) (srtt : ℤ) → fromSrttOf s srtt .refusal ≡ 0 → keepsRule (fromSrttOf s srtt .state) ≡ true
 unfolding fromSrttOf countedPace
-from-srtt-keeps-rule s srtt h = rw h (pace-keeps-rule s srtt _ top _ (from-srtt-asked s srtt h) (floor-at-most _) (omega arith))
+from-srtt-keeps-rule s srtt h = rw h (pace-keeps-rule s srtt _ top _ (from-srtt-asked s srtt h) (omega (arith, floor-at-most (updateCounted (s .«srtt_sample_count»)))) (omega arith))
 
 pub with-bounds-keeps-rule : (s : SenderState) (srtt : ℤ) (lo hi : ℕ) → withBoundsOf s srtt lo hi .refusal ≡ 0 → keepsRule (withBoundsOf s srtt lo hi .state) ≡ true
 unfolding withBoundsOf

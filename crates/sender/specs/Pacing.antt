@@ -1,14 +1,12 @@
 -- The report interval from the smoothed round trip: document 01, "Reports due". Definitions only.
-use mathlib.Core.Bool.{Bool, _&&_, _||_}
+use mathlib.Core.Bool.{_&&_}
 use mathlib.Core.List.{[], _∷_}
-use Prim.Native.Nat.{ℕ, _+_, _-_, _*_, _^_, min}
-use lib.Dec.{leb}
-use lib.IntN.{ℤ, pos}
-use lib.Signed.{leZ}
-use Rattle.numbers.specs.Intervals.{floorAt, top, nextInterval}
+use Prim.Native.Nat.{ℕ, _*_}
+use lib.IntN.{ℤ}
+use Rattle.numbers.specs.Intervals.{floorAt, top, updateCounted, nextInterval}
 use Rattle.numbers.specs.Signs.{asUnsigned}
 use Rattle.refusals.specs.Questions.{question, firstNo}
-use Rattle.refusals.specs.Ranges.{clockOk, smoothedOk}
+use Rattle.refusals.specs.Ranges.{clockOk, smoothedOk, boundsOk}
 use Rattle.sender.specs.State.{keepsRule, updated}
 use Rattle.sender.specs.declared.SenderState.{SenderState}
 use Rattle.sender.specs.declared.SenderUpdate.{SenderUpdate}
@@ -36,24 +34,16 @@ withPace s interval updates =
 unfoldable pub paced : SenderState → ℤ → ℕ → ℕ → ℕ → SenderState
 paced s srtt lo hi updates = withPace s (nextInterval (s .«report_interval_ms») (2 * asUnsigned srtt) lo hi) updates
 
--- an update counted, as far as 32 bits go
-abbrev pub counted : ℕ → ℕ
-counted updates = min (updates + 1) (2 ^ 32 - 1)
-
 -- document 01, the checks: questions 1 and 8. A value of 0 or less passes 8
 unfoldable pub fromSrttRefusal : SenderState → ℤ → ℕ
 fromSrttRefusal s srtt = firstNo (question 1 (keepsRule s) ∷ question 8 (smoothedOk srtt) ∷ [])
 
 -- the update is counted, and the floor goes by the count
 unfoldable pub countedPace : SenderState → ℤ → SenderState
-countedPace s srtt = paced s srtt (floorAt (counted (s .«srtt_sample_count»))) top (counted (s .«srtt_sample_count»))
+countedPace s srtt = paced s srtt (floorAt (updateCounted (s .«srtt_sample_count»))) top (updateCounted (s .«srtt_sample_count»))
 
 unfoldable pub fromSrttOf : SenderState → ℤ → SenderUpdate
 fromSrttOf s srtt = updated (fromSrttRefusal s srtt) s (countedPace s srtt)
-
--- question 9: the lower bound is at most the upper. "A smoothed value of 0 or less skips 8 and 9"
-abbrev pub boundsOk : ℤ → ℕ → ℕ → Bool
-boundsOk srtt lo hi = leZ srtt (pos 0) || leb lo hi
 
 -- document 01, the checks: questions 1, 2 of both bounds, 8 and 9
 unfoldable pub withBoundsRefusal : SenderState → ℤ → ℕ → ℕ → ℕ

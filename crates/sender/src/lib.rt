@@ -6,10 +6,13 @@ pub mod backoff; // backoff.rt: failures to send a report
 pub mod pacing; // pacing.rt: the report interval from the smoothed round trip
 
 ghost use mathlib.Core.Path.{_≡_};
+ghost use mathlib.Core.Bool.{cond};
+ghost use Rattle.refusals.specs.Ranges.{maxClock};
 ghost use Rattle.sender.specs.State.{keepsRule, refusalOf, startedAt, fresh, newOf, packetsOf, bytesOf, intervalOf, failuresOf};
 use refusals::answer::AnswerU32;
 use refusals::answer::AnswerU64;
 use refusals::questions::Questions;
+use refusals::ranges::MAX_CLOCK_MS;
 use refusals::ranges::clock_ok;
 
 // What an end keeps of the frames that it sends to one peer.
@@ -102,12 +105,23 @@ impl SenderState {
         }
     }
 
+    // The latest time that a last report may have: 0 where there was none.
+    fn latest_report_ms(self) -> u64
+        ensures { λ r. ⌜ r ≡ cond (self .«has_last_report») maxClock 0 ⌝ }
+    {
+        if self.has_last_report {
+            MAX_CLOCK_MS
+        } else {
+            0
+        }
+    }
+
     pub fn keeps_rule(self) -> bool
         ensures { λ r. ⌜ r ≡ keepsRule self ⌝ }
     {
-        let last_report = clock_ok(self.last_report_ms);
+        let latest = self.latest_report_ms();
         let interval = clock_ok(self.report_interval_ms);
-        last_report & interval & (self.has_last_report | (self.last_report_ms == 0))
+        (self.last_report_ms <= latest) & interval
     }
 
     fn refusal(self) -> u8

@@ -1,7 +1,5 @@
-use mathlib.Core.Path.{_≡_, refl, sym, subst, ap, _∙_}
-use Prim.Native.Nat.{ℕ, _-_}
+use Prim.Native.Nat.{_-_}
 use native.Mathlib.Omega.{arith}
-use borrow.Author.Needs.{needs}
 use Rattle.codec.proofs.Signed.{at-least-0, back, back-is}
 use Rattle.codec.proofs.fields.bits32.Statement.{statement}
 use Rattle.codec.proofs.fields.bits32.Tie as tie

@@ -2,7 +2,7 @@ use borrow.Author.Needs.{needs}
 use native.Mathlib.Omega.{arith}
 use Rattle.codec.specs.LittleEndian.{leAt}
 use Rattle.codec.proofs.Widths.{field-here, field-not}
-use mathlib.Core.Path.{_≡_, sym, _∙_}
+use mathlib.Core.Path.{_≡_, _∙_}
 use Prim.Native.Nat.{ℕ, _+_, _*_}
 use Rattle.codec.proofs.fields.u8_at.Statement.{statement}
 use Rattle.codec.proofs.fields.u8_at.Tie as tie

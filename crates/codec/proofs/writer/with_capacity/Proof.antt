@@ -1,4 +1,3 @@
-use borrow.Author.Needs.{needs}
 use borrow.Author.Tests.{le-leb, lt-leb}
 use Rattle.codec.specs.Writing.{roomFor}
 use Rattle.codec.proofs.writer.with_capacity.Statement.{statement}

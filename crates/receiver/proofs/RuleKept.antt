@@ -1,0 +1,207 @@
+-- Each call ends within the rule: a new record keeps it, and so does the record after any call that is accepted.
+-- Assumes nothing.
+use mathlib.Core.Path.{_≡_, refl}
+use mathlib.Core.Bool.{Bool, true, false, cond}
+use mathlib.Core.List.{List}
+use Prim.Native.Nat.{ℕ, _+_, _≤_}
+use native.Mathlib.Omega.{arith}
+use lib.Dec.{leb, ltb, eqb}
+use lib.IntN.{ℤ}
+use borrow.Author.Tests.{le-leb, eqb-true, leb-true}
+use Rattle.numbers.specs.Intervals.{top, updateCounted, nextInterval}
+use Rattle.numbers.specs.Signs.{asUnsigned}
+use Rattle.numbers.proofs.IntervalAtMost.{next-at-most, floor-at-most}
+use Rattle.refusals.specs.Ranges.{maxClock, clockOk}
+use Rattle.algorithms.proofs.OwdRuleKept as windows
+use Rattle.algorithms.specs.Owd.{window}
+use Rattle.algorithms.specs.OwdTrend.{trendOf}
+use Rattle.gaps.specs.Gaps.{burstsOk}
+use Rattle.gaps.proofs.RuleKept as trackers
+use Rattle.samples.proofs.SampleKeepsRule as samples
+use Rattle.receiver.specs.State.{grace, keepsRule, Fits, startedAt, fresh, newRefusal, newOf, rekeyed, rekeyOf}
+use Rattle.receiver.specs.Frames.{reordersAfter, counted, measured, unmeasured, pushes, taken, frameOf}
+use Rattle.receiver.specs.Reports.{someBuilt, noneBuilt, built, reportRefusal, builtOf}
+use Rattle.receiver.specs.Pacing.{withPace, paced, countedPace, fromSrttOf, withBoundsOf}
+use Rattle.receiver.specs.declared.ReceiverState.{ReceiverState}
+use Rattle.receiver.specs.declared.reports.ReceiverReportBuilt.{ReceiverReportBuilt}
+use Rattle.receiver.proofs.QuestionsAnswered.{kept, keeps, new-asked, clock-asked, report-asked, from-srtt-asked, with-bounds-asked}
+use Rattle.receiver.proofs.FrameAsked.{frame-asked}
+
+-- ---- a new record
+started-keeps-rule : (window ms : ℕ) → clockOk ms ≡ true → keepsRule (startedAt window ms) ≡ true
+started-keeps-rule window ms h =
+    keeps (startedAt window ms)
+    (record { last-recv = refl; last-report = refl; interval = h; deadline = refl; jitter = refl; window = windows.new-keeps-rule window; reference = refl; tracker = trackers.fresh-keeps-rule; reorders = refl })
+
+pub fresh-keeps-rule : keepsRule fresh ≡ true
+fresh-keeps-rule = started-keeps-rule 32 200 refl
+
+-- refused or not: a refused constructor gives the default
+pub new-keeps-rule : (window ms : ℕ) → keepsRule (newOf window ms .state) ≡ true
+unfolding newOf
+new-keeps-rule window ms = go (eqb (newRefusal ms) 0) refl
+  where
+    go : (b : Bool) → eqb (newRefusal ms) 0 ≡ b → keepsRule (cond b (startedAt window ms) fresh) ≡ true
+    go true e = started-keeps-rule window ms (new-asked ms (eqb-true (newRefusal ms) 0 e))
+    go false e = fresh-keeps-rule
+
+-- ---- a rekey
+pub rekey-keeps-rule : (s : ReceiverState) (now : ℕ) → rekeyOf s now .refusal ≡ 0 → keepsRule (rekeyOf s now .state) ≡ true
+unfolding rekeyOf rekeyed
+rekey-keeps-rule s now h =
+    let y = clock-asked s now h in
+    let k = kept s (y .0) in
+    let l = y .1 in
+    rw h (keeps _
+    (record { last-recv = refl; last-report = k .last-report; interval = k .interval; deadline = le-leb (now + grace) (maxClock + grace) (omega arith); jitter = refl; window = windows.clear-keeps-rule (s .«owd_trend») (k .window); reference = refl; tracker = trackers.fresh-keeps-rule; reorders = le-leb 0 (s .«cumulative_packets_recv») (omega arith) }))
+
+-- ---- a frame
+module _ (s : ReceiverState) (rule : keepsRule s ≡ true) where
+  -- counting: one late frame more is one frame more
+  count-keeps-rule : (counter bytes : ℕ) (ce : Bool) → Fits s → burstsOk (s .«gap_tracker») counter ≡ true → keepsRule (counted s counter bytes ce) ≡ true
+  unfolding counted reordersAfter
+  count-keeps-rule counter bytes ce f b =
+      let k = kept s rule in
+      keeps (counted s counter bytes ce)
+      (record {
+        last-recv = k .last-recv;
+        last-report = k .last-report;
+        interval = k .interval;
+        deadline = k .deadline;
+        jitter = k .jitter;
+        window = k .window;
+        reference = k .reference;
+        tracker = trackers.observed-keeps-rule (s .«gap_tracker») counter (k .tracker) f b;
+        reorders = late (ltb counter (s .«highest_counter»)) (leb-true (s .«cumulative_reorder_count») (s .«cumulative_packets_recv») (k .reorders));
+      })
+    where
+      late : (b : Bool) → s .«cumulative_reorder_count» ≤ s .«cumulative_packets_recv» → leb (cond b (s .«cumulative_reorder_count» + 1) (s .«cumulative_reorder_count»)) (s .«cumulative_packets_recv» + 1) ≡ true
+      late true h = le-leb (s .«cumulative_reorder_count» + 1) (s .«cumulative_packets_recv» + 1) (omega arith)
+      late false h = le-leb (s .«cumulative_reorder_count») (s .«cumulative_packets_recv» + 1) (omega arith)
+
+  measure-keeps-rule : (times : List ℕ) (delays : List ℤ) (timestamp now : ℕ) → clockOk now ≡ true → keepsRule (measured s times delays timestamp now) ≡ true
+  unfolding measured
+  measure-keeps-rule times delays timestamp now h =
+      let k = kept s rule in
+      keeps (measured s times delays timestamp now)
+      (record {
+        last-recv = h;
+        last-report = k .last-report;
+        interval = k .interval;
+        deadline = refl;
+        jitter = samples.jitter-keeps-rule (s .jitter) (s .«last_recv_ms») (s .«last_sender_timestamp») timestamp now (k .jitter);
+        window = samples.pushed-keeps-rule (s .«owd_trend») (s .«owd_ref») times delays timestamp now (k .window);
+        reference = samples.base-keeps-rule (s .«owd_ref») now timestamp (k .reference) h;
+        tracker = k .tracker;
+        reorders = k .reorders;
+      })
+
+  unmeasured-keeps-rule : (timestamp now : ℕ) (sampled : Bool) → clockOk now ≡ true → keepsRule (unmeasured s timestamp now sampled) ≡ true
+  unfolding unmeasured
+  unmeasured-keeps-rule timestamp now true h =
+      let k = kept s rule in
+      keeps (unmeasured s timestamp now true)
+      (record {
+        last-recv = h;
+        last-report = k .last-report;
+        interval = k .interval;
+        deadline = k .deadline;
+        jitter = k .jitter;
+        window = k .window;
+        reference = k .reference;
+        tracker = k .tracker;
+        reorders = k .reorders;
+      })
+  unmeasured-keeps-rule timestamp now false h = rule
+
+  take-keeps-rule : (times : List ℕ) (delays : List ℤ) (timestamp now : ℕ) (sampled : Bool) → clockOk now ≡ true → keepsRule (taken s times delays timestamp now sampled) ≡ true
+  unfolding taken
+  take-keeps-rule times delays timestamp now sampled h = go (pushes s now sampled)
+    where
+      go : (b : Bool) → keepsRule (cond b (measured s times delays timestamp now) (unmeasured s timestamp now sampled)) ≡ true
+      go true = measure-keeps-rule times delays timestamp now h
+      go false = unmeasured-keeps-rule timestamp now sampled h
+
+-- `record_recv` is the same with `sampled` true. That a burst's length is 16 bits is its type's
+pub frame-keeps-rule : (s : ReceiverState) (times : List ℕ) (delays : List ℤ) (counter timestamp bytes : ℕ) (ce : Bool) (now : ℕ) (sampled : Bool) → Fits s
+    → frameOf s times delays counter timestamp bytes ce now sampled .refusal ≡ 0
+    → keepsRule (frameOf s times delays counter timestamp bytes ce now sampled .state) ≡ true
+unfolding frameOf
+frame-keeps-rule s times delays counter timestamp bytes ce now sampled f h =
+    let y = frame-asked s times delays counter bytes now h in
+    rw h (take-keeps-rule (counted s counter bytes ce) (count-keeps-rule s (y .rule) counter bytes ce f (y .bursts)) times delays timestamp now sampled (y .clock))
+
+-- ---- a report
+module _ (P : ReceiverReportBuilt → Type 0) (s : ReceiverState) (trend : ℤ) (now : ℕ) where
+  by-data : P (someBuilt s trend now) → P (noneBuilt 0 s) → P (built s trend now)
+  unfolding built
+  by-data some none = go (s .«interval_has_data»)
+    where
+      go : (b : Bool) → P (cond b (someBuilt s trend now) (noneBuilt 0 s))
+      go true = some
+      go false = none
+
+report-ends-within : (s : ReceiverState) (trend : ℤ) (now : ℕ) → Fits s → keepsRule s ≡ true → clockOk now ≡ true → keepsRule (built s trend now .state) ≡ true
+report-ends-within s trend now f rule h =
+    let k = kept s rule in
+    by-data (λ r. keepsRule (r .state) ≡ true) s trend now
+    (keeps (someBuilt s trend now .state)
+    (record {
+      last-recv = k .last-recv;
+      last-report = h;
+      interval = k .interval;
+      deadline = k .deadline;
+      jitter = k .jitter;
+      window = k .window;
+      reference = k .reference;
+      tracker = trackers.stats-keep-rule (s .«gap_tracker») (k .tracker) f;
+      reorders = k .reorders;
+    }))
+    rule
+
+-- the refusal is that of the questions
+pub report-refusal : (s : ReceiverState) (times : List ℕ) (delays : List ℤ) (now : ℕ) → builtOf s times delays now .refusal ≡ reportRefusal s times delays now
+unfolding builtOf
+report-refusal s times delays now = go (reportRefusal s times delays now) (eqb (reportRefusal s times delays now) 0) (eqb-true (reportRefusal s times delays now) 0)
+  where
+    go : (n : ℕ) (b : Bool) → (b ≡ true → n ≡ 0) → cond b (built s (trendOf (window (s .«owd_trend») times delays)) now) (noneBuilt n s) .refusal ≡ n
+    go n true f = rw (f refl) (by-data (λ r. r .refusal ≡ 0) s (trendOf (window (s .«owd_trend») times delays)) now refl refl)
+    go n false f = refl
+
+pub report-keeps-rule : (s : ReceiverState) (times : List ℕ) (delays : List ℤ) (now : ℕ) → Fits s → builtOf s times delays now .refusal ≡ 0
+    → keepsRule (builtOf s times delays now .state) ≡ true
+unfolding builtOf
+report-keeps-rule s times delays now f e =
+    let h : reportRefusal s times delays now ≡ 0 = rw (report-refusal s times delays now) at e in
+    let y = report-asked s times delays now h in
+    rw h (report-ends-within s (trendOf (window (s .«owd_trend») times delays)) now f (y .0) (y .1))
+
+-- ---- the interval
+pace-keeps-rule : (s : ReceiverState) (srtt : ℤ) (lo hi updates : ℕ) → keepsRule s ≡ true → lo ≤ maxClock → hi ≤ maxClock → keepsRule (paced s srtt lo hi updates) ≡ true
+unfolding paced
+pace-keeps-rule s srtt lo hi updates h hl hh =
+    let k = kept s h in
+    let next = nextInterval (s .«report_interval_ms») (asUnsigned srtt) lo hi in
+    let now = leb-true (s .«report_interval_ms») maxClock (k .interval) in
+    keeps (withPace s next updates)
+    (record {
+      last-recv = k .last-recv;
+      last-report = k .last-report;
+      interval = le-leb next maxClock (next-at-most (s .«report_interval_ms») (asUnsigned srtt) lo hi maxClock now hl hh);
+      deadline = k .deadline;
+      jitter = k .jitter;
+      window = k .window;
+      reference = k .reference;
+      tracker = k .tracker;
+      reorders = k .reorders;
+    })
+
+pub from-srtt-keeps-rule : (s : ReceiverState) (srtt : ℤ) → fromSrttOf s srtt .refusal ≡ 0 → keepsRule (fromSrttOf s srtt .state) ≡ true
+unfolding fromSrttOf countedPace
+from-srtt-keeps-rule s srtt h = rw h (pace-keeps-rule s srtt _ top _ (from-srtt-asked s srtt h) (omega (arith, floor-at-most (updateCounted (s .«srtt_sample_count»)))) (omega arith))
+
+pub with-bounds-keeps-rule : (s : ReceiverState) (srtt : ℤ) (lo hi : ℕ) → withBoundsOf s srtt lo hi .refusal ≡ 0 → keepsRule (withBoundsOf s srtt lo hi .state) ≡ true
+unfolding withBoundsOf
+with-bounds-keeps-rule s srtt lo hi h =
+    let y = with-bounds-asked s srtt lo hi h in
+    rw h (pace-keeps-rule s srtt lo hi (s .«srtt_sample_count») (y .0) (y .1) (y .2))

@@ -1,0 +1,147 @@
+-- A frame is received: document 01, "Jitter, delay trend and bursts", and receiver.rs, `record_frame`. Definitions only.
+use mathlib.Core.Bool.{Bool, true, cond, not, _&&_}
+use mathlib.Core.List.{List, [], _∷_}
+use Prim.Native.Nat.{ℕ, _+_, _-_, _^_, _<_, min, max}
+use lib.Dec.{eqb, ltb}
+use lib.IntN.{ℤ}
+use lib.ListN.{length}
+use Rattle.refusals.specs.Questions.{question, firstNo}
+use Rattle.refusals.specs.Ranges.{clockOk, frameSizeOk, counterOk}
+use Rattle.refusals.specs.declared.option.OptionU64.{OptionU64}
+use Rattle.refusals.specs.declared.option.OptionU64.the-variants as option
+use Rattle.algorithms.specs.Owd.{windowsOk, pushRefusal, stored}
+use Rattle.algorithms.specs.declared.jitter.JitterEstimator.{JitterEstimator}
+use Rattle.algorithms.specs.declared.owd.OwdTrendDetector.{OwdTrendDetector}
+use Rattle.gaps.specs.Gaps.{burstsOk, observed}
+use Rattle.samples.specs.Transit.{inGrace, jitterAfter}
+use Rattle.samples.specs.Delay.{baseOf, ageOf, delayOf, windowFor, pushed}
+use Rattle.samples.specs.declared.OwdReference.{OwdReference}
+use Rattle.samples.specs.declared.OwdReference.the-variants as reference
+use Rattle.receiver.specs.State.{keepsRule, updated}
+use Rattle.receiver.specs.declared.ReceiverState.{ReceiverState}
+use Rattle.receiver.specs.declared.ReceiverUpdate.{ReceiverUpdate}
+
+-- ---- counting
+-- a counter below the highest is out of order
+unfoldable pub reordersAfter : ℕ → ℕ → ℕ → ℕ
+reordersAfter reorders highest counter = cond (ltb counter highest) (reorders + 1) reorders
+
+-- ECN: one more for a frame marked CE, as far as 32 bits go
+unfoldable pub markedAfter : ℕ → Bool → ℕ
+markedAfter count ce = cond ce (min (count + 1) (2 ^ 32 - 1)) count
+
+-- every frame is counted, in the lifetime exactly and in the interval as far as 32 bits go
+unfoldable pub counted : ReceiverState → ℕ → ℕ → Bool → ReceiverState
+counted s counter bytes ce =
+    record {
+      «cumulative_packets_recv» = s .«cumulative_packets_recv» + 1;
+      «cumulative_bytes_recv» = s .«cumulative_bytes_recv» + bytes;
+      «cumulative_reorder_count» = reordersAfter (s .«cumulative_reorder_count») (s .«highest_counter») counter;
+      «highest_counter» = max (s .«highest_counter») counter;
+      «interval_packets_recv» = min (s .«interval_packets_recv» + 1) (2 ^ 32 - 1);
+      «interval_bytes_recv» = min (s .«interval_bytes_recv» + bytes) (2 ^ 32 - 1);
+      jitter = s .jitter;
+      «owd_trend» = s .«owd_trend»;
+      «owd_ref» = s .«owd_ref»;
+      «gap_tracker» = observed (s .«gap_tracker») counter .tracker;
+      «ecn_ce_count» = markedAfter (s .«ecn_ce_count») ce;
+      «last_sender_timestamp» = s .«last_sender_timestamp»;
+      «last_recv_ms» = s .«last_recv_ms»;
+      «rekey_jitter_grace_until_ms» = s .«rekey_jitter_grace_until_ms»;
+      «last_report_ms» = s .«last_report_ms»;
+      «report_interval_ms» = s .«report_interval_ms»;
+      «interval_has_data» = true;
+      «srtt_sample_count» = s .«srtt_sample_count»;
+    }
+
+-- what the sums leave room for
+pub record Room (s : ReceiverState) (bytes : ℕ) : Type 0 where
+  pub packets-fit : s .«cumulative_packets_recv» + 1 < 2 ^ 64
+  pub bytes-fit : s .«cumulative_bytes_recv» + bytes < 2 ^ 64
+  pub reorders-fit : s .«cumulative_reorder_count» + 1 < 2 ^ 64
+
+-- document 01, question 10: lifetime packets and bytes, and the bursts where this frame begins one
+abbrev pub countersOk : ReceiverState → ℕ → ℕ → Bool
+countersOk s counter bytes = counterOk 64 (s .«cumulative_packets_recv») 1 && counterOk 64 (s .«cumulative_bytes_recv») bytes && burstsOk (s .«gap_tracker») counter
+
+-- ---- sampling
+-- the figures of a sample, and what the echo reads: the timestamp and the time of the frame
+abbrev pub withTiming : ReceiverState → JitterEstimator → OwdTrendDetector → OwdReference → OptionU64 → ℕ → ℕ → ReceiverState
+withTiming s jitter window ref deadline timestamp now =
+    record {
+      «cumulative_packets_recv» = s .«cumulative_packets_recv»;
+      «cumulative_bytes_recv» = s .«cumulative_bytes_recv»;
+      «cumulative_reorder_count» = s .«cumulative_reorder_count»;
+      «highest_counter» = s .«highest_counter»;
+      «interval_packets_recv» = s .«interval_packets_recv»;
+      «interval_bytes_recv» = s .«interval_bytes_recv»;
+      jitter = jitter;
+      «owd_trend» = window;
+      «owd_ref» = ref;
+      «gap_tracker» = s .«gap_tracker»;
+      «ecn_ce_count» = s .«ecn_ce_count»;
+      «last_sender_timestamp» = timestamp;
+      «last_recv_ms» = option.Some now;
+      «rekey_jitter_grace_until_ms» = deadline;
+      «last_report_ms» = s .«last_report_ms»;
+      «report_interval_ms» = s .«report_interval_ms»;
+      «interval_has_data» = s .«interval_has_data»;
+      «srtt_sample_count» = s .«srtt_sample_count»;
+    }
+
+-- a sample out of grace: jitter, trend, the reference that it was measured from, and no grace any more
+unfoldable pub measured : ReceiverState → List ℕ → List ℤ → ℕ → ℕ → ReceiverState
+measured s times delays timestamp now =
+    withTiming s (jitterAfter (s .jitter) (s .«last_recv_ms») (s .«last_sender_timestamp») timestamp now) (pushed (s .«owd_trend») (s .«owd_ref») times delays timestamp now)
+    (reference.Some (baseOf (s .«owd_ref») now timestamp .«recv_ms») (baseOf (s .«owd_ref») now timestamp .«sender_timestamp»)) option.None timestamp now
+
+-- "updates neither jitter nor trend, but does update the echo"; a frame not sampled moves nothing
+unfoldable pub unmeasured : ReceiverState → ℕ → ℕ → Bool → ReceiverState
+unmeasured s timestamp now sampled = cond sampled (withTiming s (s .jitter) (s .«owd_trend») (s .«owd_ref») (s .«rekey_jitter_grace_until_ms») timestamp now) s
+
+-- the frame pushes a sample: it is sampled, and out of grace
+unfoldable pub pushes : ReceiverState → ℕ → Bool → Bool
+pushes s now sampled = sampled && not (inGrace (s .«rekey_jitter_grace_until_ms») now)
+
+unfoldable pub taken : ReceiverState → List ℕ → List ℤ → ℕ → ℕ → Bool → ReceiverState
+taken s times delays timestamp now sampled = cond (pushes s now sampled) (measured s times delays timestamp now) (unmeasured s timestamp now sampled)
+
+-- ---- the windows: what a push writes, or nothing
+unfoldable pub pushNumber : ReceiverState → List ℕ → List ℤ → ℕ → ℕ → ℕ
+pushNumber s times delays timestamp now = pushRefusal (windowFor (s .«owd_trend») (s .«owd_ref») now) times delays (delayOf (s .«owd_ref») timestamp now)
+
+unfoldable pub timesAfter : ReceiverState → List ℕ → List ℤ → ℕ → ℕ → List ℕ
+timesAfter s times delays timestamp now = stored (pushNumber s times delays timestamp now) (windowFor (s .«owd_trend») (s .«owd_ref») now) (ageOf (s .«owd_ref») timestamp now) times
+
+unfoldable pub delaysAfter : ReceiverState → List ℕ → List ℤ → ℕ → ℕ → List ℤ
+delaysAfter s times delays timestamp now = stored (pushNumber s times delays timestamp now) (windowFor (s .«owd_trend») (s .«owd_ref») now) (delayOf (s .«owd_ref») timestamp now) delays
+
+unfoldable pub takenTimes : ReceiverState → List ℕ → List ℤ → ℕ → ℕ → Bool → List ℕ
+takenTimes s times delays timestamp now sampled = cond (pushes s now sampled) (timesAfter s times delays timestamp now) times
+
+unfoldable pub takenDelays : ReceiverState → List ℕ → List ℤ → ℕ → ℕ → Bool → List ℤ
+takenDelays s times delays timestamp now sampled = cond (pushes s now sampled) (delaysAfter s times delays timestamp now) delays
+
+-- ---- the call
+-- document 01, the checks: questions 1, 2, 3, 4 and 10. 5 is asked of the pushed sample and can't be answered no
+unfoldable pub frameRefusal : ReceiverState → List ℕ → List ℤ → ℕ → ℕ → ℕ → ℕ
+frameRefusal s times delays counter bytes now =
+    firstNo (
+    question 1 (keepsRule s)
+    ∷ question 2 (clockOk now)
+    ∷ question 3 (frameSizeOk bytes)
+    ∷ question 4 (windowsOk (s .«owd_trend») (length times) (length delays))
+    ∷ question 10 (countersOk s counter bytes)
+    ∷ []
+    )
+
+-- a frame of this counter, timestamp, size and mark, at this time, sampled or not: counted, then sampled
+unfoldable pub frameOf : ReceiverState → List ℕ → List ℤ → ℕ → ℕ → ℕ → Bool → ℕ → Bool → ReceiverUpdate
+frameOf s times delays counter timestamp bytes ce now sampled = updated (frameRefusal s times delays counter bytes now) s (taken (counted s counter bytes ce) times delays timestamp now sampled)
+
+-- the windows after it: as they were beside a refusal
+unfoldable pub frameTimes : ReceiverState → List ℕ → List ℤ → ℕ → ℕ → ℕ → ℕ → Bool → List ℕ
+frameTimes s times delays counter timestamp bytes now sampled = cond (eqb (frameRefusal s times delays counter bytes now) 0) (takenTimes s times delays timestamp now sampled) times
+
+unfoldable pub frameDelays : ReceiverState → List ℕ → List ℤ → ℕ → ℕ → ℕ → ℕ → Bool → List ℤ
+frameDelays s times delays counter timestamp bytes now sampled = cond (eqb (frameRefusal s times delays counter bytes now) 0) (takenDelays s times delays timestamp now sampled) delays

@@ -1,0 +1,4 @@
+pub mod State
+pub mod Frames
+pub mod Reports
+pub mod Pacing

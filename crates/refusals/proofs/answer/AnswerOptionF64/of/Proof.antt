@@ -1,0 +1,9 @@
+-- `refusals::answer::AnswerOptionF64::of` meets its contract. Assumes nothing.
+use borrow.Author.Tests.{eq-eqb, ne-eqb}
+use Rattle.refusals.specs.Answers.{answerOptionF64}
+use Rattle.refusals.proofs.answer.AnswerOptionF64.of.Statement.{statement}
+use Rattle.refusals.proofs.answer.AnswerOptionF64.of.Tie as tie
+
+pub of-spec : {M : Type 1} → statement M
+unfolding answerOptionF64
+of-spec = tie.close (tie.spec (λ c. rw (eq-eqb _ 0 (c .if1 .taken))) (λ c. rw (ne-eqb _ 0 (c .if1 .left))))

@@ -1,0 +1,69 @@
+-- A sample's age is below 2^30 ms, so its delay is within ±2^42 µs: question 5 of a pushed sample can't be answered no.
+-- Assumes nothing.
+use mathlib.Core.Path.{_≡_, refl, ap, _∙_}
+use mathlib.Core.Bool.{Bool, true, false, cond}
+use Prim.Native.Nat.{ℕ, suc, _+_, _-_, _*_, _^_, _≤_, _<_}
+use native.Mathlib.Omega.{arith}
+use lib.Dec.{leb, ltb}
+use lib.IntN.{ℤ, pos, negsuc, subℕ, _-ℤ_, _*ℤ_}
+use borrow.Author.Tests.{leb-false, ltb-true, ltb-false, le-leb}
+use mir.Syntax.{w32}
+use mir.Val.{toZ}
+use mir.Facts.{toZ-pos, toZ-neg}
+use Rattle.refusals.specs.Ranges.{delayOk}
+use Rattle.samples.specs.Words.{modulo, reduced}
+use Rattle.samples.specs.Delay.{span, base, younger, baseOf, ageOf, sentMs, delayUs, delayOf}
+use Rattle.samples.specs.declared.OwdReference.{OwdReference}
+use Rattle.samples.specs.declared.OwdReference.the-variants.{None, Some}
+use Rattle.samples.proofs.Differences.{minus, multiple}
+use Rattle.samples.proofs.Reduction.{modulo-below}
+
+pub age-below : (r : OwdReference) (timestamp now : ℕ) → ageOf r timestamp now < span
+unfolding ageOf younger
+age-below None timestamp now = omega arith
+age-below (Some recv sent) timestamp now = go (leb span (now - recv)) (leb-false span (now - recv))
+  where
+    go : (b : Bool) → (b ≡ false → now - recv < span) → now - cond b (base now timestamp) (base recv sent) .«recv_ms» < span
+    go true f = omega arith
+    go false f = f refl
+
+-- a difference read as signed, by its sign
+pub near : (age word : ℕ) → word < 2 ^ 31 → delayUs age (toZ w32 word) ≡ subℕ (1000 * age) (1000 * word)
+unfolding delayUs
+near age word h = ap (λ z. pos 1000 *ℤ (pos age -ℤ z)) (toZ-pos w32 h) ∙ ap (λ z. pos 1000 *ℤ z) (minus age word) ∙ multiple 1000 age word
+
+pub far : (age word : ℕ) → 2 ^ 31 ≤ word → word < 2 ^ 32 → delayUs age (toZ w32 word) ≡ pos (1000 * (age + (2 ^ 32 - word)))
+unfolding delayUs
+far age word h l =
+    let n = 2 ^ 32 - suc word in
+    let e : word ≡ 2 ^ 32 - suc n = omega arith in
+    let t : toZ w32 word ≡ negsuc n = ap (toZ w32) e ∙ toZ-neg w32 n (omega arith) in
+    let s : suc n ≡ 2 ^ 32 - word = omega arith in
+    ap (λ z. pos 1000 *ℤ (pos age -ℤ z)) t ∙ ap (λ (k : ℕ). pos (1000 * (age + k))) s
+
+high : (n : ℕ) → n ≤ 2 ^ 42 → delayOk (pos n) ≡ true
+high n h = le-leb n (2 ^ 42) h
+
+low : (n : ℕ) → suc n ≤ 2 ^ 42 → delayOk (negsuc n) ≡ true
+low n h = rw (le-leb n (2 ^ 42 - 1) (omega arith))
+
+apart : (a b : ℕ) → a ≤ 2 ^ 42 → b ≤ 2 ^ 42 → delayOk (subℕ a b) ≡ true
+apart a b ha hb = go (ltb a b) (ltb-true a b)
+  where
+    go : (t : Bool) → (t ≡ true → a < b) → delayOk (cond t (negsuc (b - suc a)) (pos (a - b))) ≡ true
+    go true f = let l = f refl in low (b - suc a) (omega arith)
+    go false f = high (a - b) (omega arith)
+
+in-range : (age word : ℕ) → age < span → word < 2 ^ 32 → delayOk (delayUs age (toZ w32 word)) ≡ true
+in-range age word ha hw = go (ltb word (2 ^ 31)) (ltb-true word (2 ^ 31)) (ltb-false word (2 ^ 31))
+  where
+    go : (t : Bool) → (t ≡ true → word < 2 ^ 31) → (t ≡ false → 2 ^ 31 ≤ word) → delayOk (delayUs age (toZ w32 word)) ≡ true
+    go true f g = let l = f refl in ap delayOk (near age word l) ∙ apart (1000 * age) (1000 * word) (omega arith) (omega arith)
+    go false f g = let l = g refl in ap delayOk (far age word l hw) ∙ high (1000 * (age + (2 ^ 32 - word))) (omega arith)
+
+-- question 5 of the sample that a frame pushes, whatever the reference, the timestamp and the clock
+pub delay-in-range : (r : OwdReference) (timestamp now : ℕ) → delayOk (delayOf r timestamp now) ≡ true
+unfolding delayOf sentMs reduced
+delay-in-range r timestamp now =
+    let sent = pos timestamp -ℤ pos (baseOf r now timestamp .«sender_timestamp») in
+    in-range (ageOf r timestamp now) (modulo sent) (age-below r timestamp now) (modulo-below sent)

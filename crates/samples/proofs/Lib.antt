@@ -1,0 +1,5 @@
+pub mod Differences
+pub mod Reduction
+pub mod WrappedTimestamp
+pub mod DelayInRange
+pub mod SampleKeepsRule

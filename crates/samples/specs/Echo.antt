@@ -1,0 +1,19 @@
+-- The echo of a report: document 01, the examples' dwell row, and receiver.rs, `build_report`. Definitions only.
+use mathlib.Core.Bool.{cond}
+use Prim.Native.Nat.{ℕ, _-_}
+use lib.Dec.{leb}
+use Rattle.refusals.specs.declared.option.OptionU64.{OptionU64}
+use Rattle.refusals.specs.declared.option.OptionU64.the-variants.{None, Some}
+use Rattle.samples.specs.declared.Echo.{Echo}
+
+abbrev pub echo : ℕ → ℕ → Echo
+echo timestamp dwell = record { «timestamp_echo» = timestamp; «dwell_time» = dwell }
+
+-- "dwell 65535 / 65536: echo kept / echo 0, dwell 65535"
+unfoldable pub echoAfter : ℕ → ℕ → Echo
+echoAfter timestamp dwell = cond (leb dwell 65535) (echo timestamp dwell) (echo 0 65535)
+
+-- the dwell is the time since the last sample, 0 if the clock fell; no sample yet: 0 and 0
+abbrev pub echoOf : OptionU64 → ℕ → ℕ → Echo
+echoOf None timestamp now = echo 0 0
+echoOf (Some recv) timestamp now = echoAfter timestamp (now - recv)

@@ -1,0 +1,4 @@
+pub mod Words
+pub mod Transit
+pub mod Delay
+pub mod Echo

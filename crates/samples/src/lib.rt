@@ -1,0 +1,236 @@
+// receiver.rs, the sampling half of a frame: transit difference, grace, one-way delay from a reference, and the echo of a report.
+
+ghost use mathlib.Core.Path.{_≡_};
+ghost use Prim.Native.Nat.{_<_, _^_};
+ghost use lib.IntN.{pos, subℕ, _-ℤ_};
+ghost use mir.Syntax.{w32};
+ghost use mir.Val.{toZ};
+ghost use Rattle.algorithms.specs.Owd.{pushRefusal, stored};
+ghost use Rattle.samples.specs.Words.{modulo};
+ghost use Rattle.samples.specs.Transit.{inGrace, transit, jitterAfter};
+ghost use Rattle.samples.specs.Delay.{referenceOk, restarts, younger, baseOf, ageOf, delayUs, windowFor, delayOf, pushed};
+ghost use Rattle.samples.specs.Echo.{echoAfter, echoOf};
+use algorithms::jitter::JitterEstimator;
+use algorithms::owd::OwdTrendDetector;
+use codec::fields::signed32;
+use numbers::saturating_sub;
+use numbers::signs::signed;
+use refusals::option::OptionU64;
+use refusals::ranges::clock_ok;
+
+// 2^30 ms, after which the one-way delay reference restarts: sender time changes sign at 2^31, so this leaves a wide margin.
+pub const OWD_REF_SPAN_MS: u64 = 1_073_741_824;
+
+// 2^32: the sender's timestamps come again after so many ms.
+const TIMESTAMP_SPAN: u64 = 4_294_967_296;
+
+// The receive time and the sender's timestamp of the frame that every delay is measured from.
+pub enum OwdReference {
+    None,
+    Some(u64, u32),
+}
+
+// A reference that is there.
+pub struct OwdBase {
+    pub recv_ms: u64,
+    pub sender_timestamp: u32,
+}
+
+// What a report says of the last sampled frame: its timestamp, and how long ago it came.
+pub struct Echo {
+    pub timestamp_echo: u32,
+    pub dwell_time: u16,
+}
+
+// --- Jitter ---
+
+// Whether a rekey's grace lasts: its deadline is not reached.
+pub fn in_grace(deadline_ms: OptionU64, now_ms: u64) -> bool
+    ensures { λ r. ⌜ r ≡ inGrace «deadline_ms» «now_ms» ⌝ }
+{
+    match deadline_ms {
+        OptionU64::None => false,
+        OptionU64::Some(deadline) => now_ms < deadline,
+    }
+}
+
+// D: the receive step less the sender's, in µs, in 32 bits.
+fn transit(step_ms: u64, timestamp: u32, last_timestamp: u32) -> i32
+    ensures { λ r. ⌜ r ≡ transit «step_ms» timestamp «last_timestamp» ⌝ }
+{
+    let ms = step_ms % TIMESTAMP_SPAN + last_timestamp as u64 + (TIMESTAMP_SPAN - timestamp as u64);
+    signed32((1000 * ms % TIMESTAMP_SPAN) as u32)
+}
+
+// The jitter after a sample. The first sample has no step.
+pub fn jitter_after(
+    jitter: JitterEstimator,
+    last_recv_ms: OptionU64,
+    last_timestamp: u32,
+    timestamp: u32,
+    now_ms: u64,
+) -> JitterEstimator
+    ensures { λ r. ⌜ r ≡ jitterAfter jitter «last_recv_ms» «last_timestamp» timestamp «now_ms» ⌝ }
+{
+    match last_recv_ms {
+        OptionU64::None => jitter,
+        OptionU64::Some(last) => {
+            let difference = transit(saturating_sub(now_ms, last), timestamp, last_timestamp);
+            jitter.step(difference)
+        }
+    }
+}
+
+// --- One-way delay ---
+
+// The rule of a reference: absent, or its clock in range.
+pub fn reference_ok(owd_ref: OwdReference) -> bool
+    ensures { λ r. ⌜ r ≡ referenceOk «owd_ref» ⌝ }
+{
+    match owd_ref {
+        OwdReference::None => true,
+        OwdReference::Some(recv_ms, _timestamp) => clock_ok(recv_ms),
+    }
+}
+
+// Whether the reference is too old.
+fn restarts(owd_ref: OwdReference, now_ms: u64) -> bool
+    ensures { λ r. ⌜ r ≡ restarts «owd_ref» «now_ms» ⌝ }
+{
+    match owd_ref {
+        OwdReference::None => false,
+        OwdReference::Some(recv_ms, _timestamp) => {
+            OWD_REF_SPAN_MS <= saturating_sub(now_ms, recv_ms)
+        }
+    }
+}
+
+// The given base, or the sample as one where it is too old.
+fn younger(base: OwdBase, now_ms: u64, timestamp: u32) -> OwdBase
+    ensures { λ r. ⌜ r ≡ younger base «now_ms» timestamp ⌝ }
+{
+    if OWD_REF_SPAN_MS <= saturating_sub(now_ms, base.recv_ms) {
+        OwdBase {
+            recv_ms: now_ms,
+            sender_timestamp: timestamp,
+        }
+    } else {
+        base
+    }
+}
+
+// What this sample is measured from: itself where there is no reference, or one too old.
+pub fn base_of(owd_ref: OwdReference, now_ms: u64, timestamp: u32) -> OwdBase
+    ensures { λ r. ⌜ r ≡ baseOf «owd_ref» «now_ms» timestamp ⌝ }
+{
+    match owd_ref {
+        OwdReference::None => OwdBase {
+            recv_ms: now_ms,
+            sender_timestamp: timestamp,
+        },
+        OwdReference::Some(recv_ms, sender_timestamp) => {
+            let base = OwdBase {
+                recv_ms,
+                sender_timestamp,
+            };
+            younger(base, now_ms, timestamp)
+        }
+    }
+}
+
+// a − b
+fn difference(a: u64, b: u64) -> i64
+    requires { ⌜ (a < 2 ^ 63) × (b < 2 ^ 63) ⌝ }
+    ensures { λ r. ⌜ r ≡ subℕ a b ⌝ }
+{
+    if a < b {
+        signed(18_446_744_073_709_551_615 - (b - a - 1))
+    } else {
+        signed(a - b)
+    }
+}
+
+// The sender's step modulo 2^32.
+fn sent_word(timestamp: u32, from: u32) -> u64
+    ensures { λ r. ⌜ r ≡ modulo (pos timestamp -ℤ pos from) ⌝ }
+{
+    (timestamp as u64 + (TIMESTAMP_SPAN - from as u64)) % TIMESTAMP_SPAN
+}
+
+// The age less the sender's step read as signed, in µs.
+fn delay_us(age_ms: u64, word: u64) -> i64
+    requires { ⌜ («age_ms» < 2 ^ 30) × (word < 2 ^ 32) ⌝ }
+    ensures { λ r. ⌜ r ≡ delayUs «age_ms» (toZ w32 word) ⌝ }
+{
+    if word < 2_147_483_648 {
+        difference(1000 * age_ms, 1000 * word)
+    } else {
+        signed(1000 * (age_ms + (TIMESTAMP_SPAN - word)))
+    }
+}
+
+// The window that a sample is pushed to: cleared where the reference restarts.
+fn window_for(window: OwdTrendDetector, owd_ref: OwdReference, now_ms: u64) -> OwdTrendDetector
+    ensures { λ r. ⌜ r ≡ windowFor window «owd_ref» «now_ms» ⌝ }
+{
+    if restarts(owd_ref, now_ms) {
+        let cleared = window.clear();
+        cleared.state
+    } else {
+        window
+    }
+}
+
+// Push one one-way delay sample, measured from the reference frame, at its receive offset.
+pub fn sample_owd(
+    window: OwdTrendDetector,
+    owd_ref: OwdReference,
+    times: &mut [u32],
+    delays: &mut [i64],
+    timestamp: u32,
+    now_ms: u64,
+) -> OwdTrendDetector
+    ensures answer { λ r. ⌜ r ≡ pushed window «owd_ref» (now (times .entry)) (now (delays .entry)) timestamp «now_ms» ⌝ }
+    ensures times { λ r. ⌜ now (times .exit) ≡ stored (pushRefusal (windowFor window «owd_ref» «now_ms») (now (times .entry)) (now (delays .entry)) (delayOf «owd_ref» timestamp «now_ms»)) (windowFor window «owd_ref» «now_ms») (ageOf «owd_ref» timestamp «now_ms») (now (times .entry)) ⌝ }
+    ensures delays { λ r. ⌜ now (delays .exit) ≡ stored (pushRefusal (windowFor window «owd_ref» «now_ms») (now (times .entry)) (now (delays .entry)) (delayOf «owd_ref» timestamp «now_ms»)) (windowFor window «owd_ref» «now_ms») (delayOf «owd_ref» timestamp «now_ms») (now (delays .entry)) ⌝ }
+{
+    let base = base_of(owd_ref, now_ms, timestamp);
+    let age = saturating_sub(now_ms, base.recv_ms);
+    let word = sent_word(timestamp, base.sender_timestamp);
+    let us = delay_us(age, word);
+    let live = window_for(window, owd_ref, now_ms);
+    let update = live.push(times, delays, age as u32, us);
+    update.state
+}
+
+// --- Echo ---
+
+// A dwell that does not fit on the wire gives no valid round trip: no echo then.
+fn echo_after(timestamp: u32, dwell_ms: u64) -> Echo
+    ensures { λ r. ⌜ r ≡ echoAfter timestamp «dwell_ms» ⌝ }
+{
+    if dwell_ms <= 65_535 {
+        Echo {
+            timestamp_echo: timestamp,
+            dwell_time: dwell_ms as u16,
+        }
+    } else {
+        Echo {
+            timestamp_echo: 0,
+            dwell_time: 65_535,
+        }
+    }
+}
+
+// The echo of a report at this time.
+pub fn echo_of(last_recv_ms: OptionU64, timestamp: u32, now_ms: u64) -> Echo
+    ensures { λ r. ⌜ r ≡ echoOf «last_recv_ms» timestamp «now_ms» ⌝ }
+{
+    match last_recv_ms {
+        OptionU64::None => Echo {
+            timestamp_echo: 0,
+            dwell_time: 0,
+        },
+        OptionU64::Some(last) => echo_after(timestamp, saturating_sub(now_ms, last)),
+    }
+}
