@@ -1,5 +1,6 @@
 // Floats as the link's figures use them. Each contract is an equation with a definition of specs/.
 ghost use mathlib.Core.Path.{_≡_};
+ghost use lib.IntN.{pos};
 ghost use lib.Ieee as Ieee;
 ghost use lib.Ieee.{binary64};
 ghost use Rattle.floats.specs.Operations.{inRange, clamped, step, one-quarter, one-thirty-second, complement, rounded-quotient};
@@ -42,6 +43,30 @@ pub fn long_step(s: f64, x: f64) -> f64
     s + limits::EWMA_LONG_ALPHA * (x - s)
 }
 
+// --- Whole numbers as floats ---
+
+// Rust's `n as f64` of a u64. Up to 2^53 a float holds the number, and one instruction gives it.
+pub fn nearest_u64_to_f64(n: u64) -> f64
+    ensures { λ r. ⌜ r ≡ Ieee.ofInt binary64 (pos n) ⌝ }
+{
+    if n <= 9_007_199_254_740_992 {
+        n as f64
+    } else {
+        std::num::nearest_u64_to_f64(n)
+    }
+}
+
+// Rust's `n as f64` of an i64.
+pub fn nearest_i64_to_f64(n: i64) -> f64
+    ensures { λ r. ⌜ r ≡ Ieee.ofInt binary64 n ⌝ }
+{
+    if (0 <= n) & (n <= 9_007_199_254_740_992) {
+        n as f64
+    } else {
+        std::num::nearest_i64_to_f64(n)
+    }
+}
+
 // --- Ratios ---
 
 // The loss beside a delivery ratio.
@@ -55,7 +80,7 @@ pub fn one_minus(x: f64) -> f64
 pub fn quotient(a: u64, b: u64) -> f64
     ensures { λ r. ⌜ r ≡ rounded-quotient binary64 a b ⌝ }
 {
-    std::num::nearest_u64_to_f64(a) / std::num::nearest_u64_to_f64(b)
+    nearest_u64_to_f64(a) / nearest_u64_to_f64(b)
 }
 
 // --- Casts ---

@@ -1,0 +1,5 @@
+-- The figures stay in their ranges through rounding. Assumes nothing.
+pub mod IntegersInRange
+pub mod RatiosInRange
+pub mod GoodputInRange
+pub mod TripsInRange

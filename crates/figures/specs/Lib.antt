@@ -1,0 +1,4 @@
+pub mod Stale
+pub mod RoundTrips
+pub mod Delivery
+pub mod Goodput

@@ -1,0 +1,8 @@
+-- What the calls keep, and what they leave. Assumes nothing.
+pub mod QuestionsAnswered
+pub mod ReportsByCase
+pub mod FiguresInRange
+pub mod ReportsInRange
+pub mod RuleKept
+pub mod RoundTripsTaken
+pub mod SeenApart

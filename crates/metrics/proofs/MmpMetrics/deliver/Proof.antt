@@ -1,0 +1,29 @@
+-- `metrics::MmpMetrics::deliver` meets its contract. Assumes nothing.
+use mathlib.Core.Path.{refl}
+use Rattle.refusals.proofs.PickedByTest.{yes, no}
+use Rattle.metrics.specs.Reports.{delivered}
+use Rattle.metrics.proofs.MmpMetrics.deliver.Statement.{statement}
+use Rattle.metrics.proofs.MmpMetrics.deliver.Tie as tie
+
+moved : tie.Need-returns
+unfolding delivered
+moved c =
+    let i = c .before .before .before .before .before in
+    let s = i .before .before in
+    rw (
+      c .step2 .ensures,
+      c .before .etx-of .ensures,
+      c .before .before .step .ensures,
+      c .before .before .before .one-minus .ensures,
+      c .before .before .before .before .delivery-ratio .ensures,
+      s .saturating-sub2 .ensures,
+      s .before .saturating-sub .ensures,
+    )
+    (yes _ (rw (s .before .saturating-sub .ensures) at (i .if1 .taken)) refl)
+
+left : tie.Need-returns-2
+unfolding delivered
+left c = no _ (rw (c .before .before .before .saturating-sub .ensures) at (c .if1 .left)) refl
+
+pub deliver-spec : {M : Type 1} → statement M
+deliver-spec = tie.close (tie.spec (λ c κs. tt) (λ c κs. tt) (λ c κs. tt) (λ c κs. tt) (λ c κs. tt) (λ c κs. tt) (λ c κs. tt) moved left)

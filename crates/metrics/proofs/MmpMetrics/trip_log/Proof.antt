@@ -1,0 +1,24 @@
+-- `metrics::MmpMetrics::trip_log` meets its contract. Assumes nothing.
+use borrow.Author.Needs.{needs}
+use Rattle.metrics.specs.Reports.{tripLog}
+use Rattle.metrics.proofs.MmpMetrics.trip_log.Statement.{statement}
+use Rattle.metrics.proofs.MmpMetrics.trip_log.Tie as tie
+
+no-echo : tie.Need-returns
+unfolding tripLog
+no-echo c = rw (c .enum-told .given .1)
+
+sample : tie.Need-returns-2
+unfolding tripLog
+sample c = rw (c .before .before .trip .given .1, c .smoothed-ms .ensures)
+
+zero : tie.Need-returns-3
+unfolding tripLog
+zero c = rw (c .enum-told2 .given .1)
+
+failed : tie.Need-returns-4
+unfolding tripLog
+failed c = rw (c .enum-told3 .given .1)
+
+pub trip-log-spec : {M : Type 1} → statement M
+trip-log-spec = tie.close (tie.spec (λ c. search needs) (λ c. search needs) (λ c κs. tt) (λ c. search needs) (λ c. search needs) no-echo sample zero failed)

@@ -1,0 +1,5 @@
+pub mod Fields
+pub mod State
+pub mod Updates
+pub mod Reports
+pub mod Accessors

@@ -1,0 +1,129 @@
+-- A receiver report processed, in the order of `process_receiver_report`: document 01, "Round trip, ratios and trends". Definitions only.
+use mathlib.Core.Bool.{Bool, true, false, cond, not, _&&_}
+use mathlib.Core.List.{[], _∷_}
+use Prim.Native.Nat.{ℕ, _+_, _-_, _^_, _<_}
+use lib.Dec.{eqb, ltb}
+use lib.IntN.{pos}
+use lib.Ieee.{Float, binary64, ofInt}
+use Rattle.floats.specs.Operations.{complement}
+use Rattle.refusals.specs.Questions.{question, firstNo}
+use Rattle.refusals.specs.Ranges.{clockOk, counterOk}
+use Rattle.refusals.specs.declared.option.OptionU32.the-variants as optionU32
+use Rattle.refusals.specs.declared.option.OptionU64.the-variants as optionU64
+use Rattle.wire.specs.declared.receiver_report.ReceiverReport.{ReceiverReport}
+use Rattle.algorithms.specs.Etx.{etxOf}
+use Rattle.algorithms.specs.Ewma as ewma
+use Rattle.algorithms.specs.Srtt as estimator
+use Rattle.figures.specs.Delivery.{deliveryRatio}
+use Rattle.figures.specs.Goodput.{goodputAfter}
+use Rattle.figures.specs.RoundTrips.{roundTrip, sampleUs, millisecondsOf}
+use Rattle.figures.specs.Stale.{countersOf, stale}
+use Rattle.figures.specs.declared.RoundTrip.{RoundTrip}
+use Rattle.figures.specs.declared.RoundTrip.the-variants.{NoEcho, Sample, Zero, ArithFail}
+use Rattle.metrics.specs.Fields.{withTallies, withSeen, withRoundTrip, withRatios, withTrends, withGoodput, withSaved}
+use Rattle.metrics.specs.State.{keepsRule, savedIn}
+use Rattle.metrics.specs.declared.MmpMetrics.{MmpMetrics}
+use Rattle.metrics.specs.declared.Outcome.{Outcome}
+use Rattle.metrics.specs.declared.ReportProcessed.{ReportProcessed}
+use Rattle.metrics.specs.declared.RrLog.{RrLog}
+use Rattle.metrics.specs.declared.RrLog.the-variants as log
+
+-- ---- reports seen, stale ones too
+unfoldable pub counted : MmpMetrics → MmpMetrics
+counted m = withSeen m (m .«reports_seen» + 1)
+
+-- ---- the round trip
+-- a sample moves SRTT, RTTVAR and the trend; it is the last
+unfoldable pub sampled : MmpMetrics → ℕ → MmpMetrics
+sampled m ms =
+    withRoundTrip m (estimator.stepped (m .srtt) (pos (sampleUs ms))) (ewma.stepped (m .«rtt_trend») (ofInt binary64 (pos (sampleUs ms)))) (m .«rtt_samples» + 1) (optionU32.Some ms)
+
+-- one more of each count fits
+pub record Room (m : MmpMetrics) : Type 0 where
+  pub samples : m .«rtt_samples» + 1 < 2 ^ 64
+  pub zeros : m .«rtt_zero» + 1 < 2 ^ 64
+  pub failures : m .«rtt_arith_fail» + 1 < 2 ^ 64
+
+-- any other echo is counted alone
+unfoldable pub tripTaken : MmpMetrics → RoundTrip → MmpMetrics
+tripTaken m NoEcho = m
+tripTaken m (Sample ms) = sampled m ms
+tripTaken m Zero = withTallies m (m .«reports_seen») (m .«rtt_zero» + 1) (m .«rtt_arith_fail»)
+tripTaken m ArithFail = withTallies m (m .«reports_seen») (m .«rtt_zero») (m .«rtt_arith_fail» + 1)
+
+-- "An RTT log entry carries the whole milliseconds and the SRTT from before the sample", in ms
+unfoldable pub tripLog : MmpMetrics → RoundTrip → RrLog
+tripLog m NoEcho = log.None
+tripLog m (Sample ms) = log.RttSample ms (millisecondsOf (m .srtt .«srtt_us»))
+tripLog m Zero = log.InvalidRtt
+tripLog m ArithFail = log.InvalidRtt
+
+-- ---- delivery: the forward ratio, the loss trend by it, ETX, and ETX's trend
+abbrev pub withForward : MmpMetrics → Float → MmpMetrics
+withForward m ratio =
+    withTrends (withRatios m ratio (m .«delivery_ratio_reverse») (etxOf ratio (m .«delivery_ratio_reverse»)))
+    (ewma.stepped (m .«loss_trend») (complement binary64 ratio))
+    (m .«goodput_trend»)
+    (m .«jitter_trend»)
+    (ewma.stepped (m .«etx_trend») (etxOf ratio (m .«delivery_ratio_reverse»)))
+
+-- where a report is kept and the highest counter rose; a count that fell counts as 0
+unfoldable pub delivered : MmpMetrics → ReceiverReport → MmpMetrics
+delivered m rr =
+    cond (m .«has_prev_rr» && ltb 0 (rr .«highest_counter» - m .«prev_rr_highest_counter»))
+    (withForward m (deliveryRatio (rr .«cumulative_packets_recv» - m .«prev_rr_cum_packets») (rr .«highest_counter» - m .«prev_rr_highest_counter»)))
+    m
+
+-- ---- goodput: its trend by the bytes since the report kept, and bytes per second
+abbrev pub withBytes : MmpMetrics → ℕ → ℕ → MmpMetrics
+withBytes m bytes now =
+    withGoodput (withTrends m (m .«loss_trend») (ewma.stepped (m .«goodput_trend») (ofInt binary64 (pos bytes))) (m .«jitter_trend») (m .«etx_trend»))
+    (goodputAfter (m .«goodput_bps») bytes (m .«prev_rr_ms») now)
+
+unfoldable pub carried : MmpMetrics → ReceiverReport → ℕ → MmpMetrics
+carried m rr now = cond (m .«has_prev_rr») (withBytes m (rr .«cumulative_bytes_recv» - m .«prev_rr_cum_bytes») now) m
+
+-- ---- the jitter trend
+unfoldable pub jittered : MmpMetrics → ReceiverReport → MmpMetrics
+jittered m rr = withTrends m (m .«loss_trend») (m .«goodput_trend») (ewma.stepped (m .«jitter_trend») (ofInt binary64 (pos (rr .jitter)))) (m .«etx_trend»)
+
+-- ---- the saved counters, with the report's time
+unfoldable pub kept : MmpMetrics → ReceiverReport → ℕ → MmpMetrics
+kept m rr now = withSaved m (countersOf rr) (optionU64.Some now) true
+
+-- ---- the whole, of a record whose report is counted
+-- what follows the round trip
+unfoldable pub measured : MmpMetrics → ReceiverReport → ℕ → MmpMetrics
+measured m rr now = kept (jittered (carried (delivered m rr) rr now) rr) rr now
+
+-- a report that is not stale
+unfoldable pub taken : MmpMetrics → ReceiverReport → ℕ → ℕ → MmpMetrics
+taken m rr ours now = measured (tripTaken m (roundTrip rr ours)) rr now
+
+-- the outcome: whether SRTT has just become known, and beside it the log entry
+abbrev pub outcomeOf : Bool → RrLog → Outcome
+outcomeOf first entry = record { «first_srtt» = first; log = entry }
+
+abbrev pub staleOutcome : MmpMetrics → Outcome
+staleOutcome m = outcomeOf false (log.Stale (m .«prev_rr_highest_counter») (m .«prev_rr_cum_packets») (m .«prev_rr_cum_bytes»))
+
+abbrev pub takenOutcome : MmpMetrics → ReceiverReport → ℕ → ℕ → Outcome
+takenOutcome m rr ours now = outcomeOf (not (m .srtt .initialized) && taken m rr ours now .srtt .initialized) (tripLog m (roundTrip rr ours))
+
+abbrev pub answered : ℕ → MmpMetrics → Outcome → ReportProcessed
+answered n m o = record { refusal = n; state = m; outcome = o }
+
+-- a stale report moves nothing
+unfoldable pub processed : MmpMetrics → ReceiverReport → ℕ → ℕ → ReportProcessed
+processed m rr ours now = cond (stale (savedIn m) rr) (answered 0 m (staleOutcome m)) (answered 0 (taken m rr ours now) (takenOutcome m rr ours now))
+
+-- ---- behind the questions
+-- document 01, the checks: questions 1, 2 and 10. 8 is not asked: each round trip here is in its range
+unfoldable pub processRefusal : MmpMetrics → ℕ → ℕ
+processRefusal m now = firstNo (question 1 (keepsRule m) ∷ question 2 (clockOk now) ∷ question 10 (counterOk 64 (m .«reports_seen») 1) ∷ [])
+
+abbrev pub refused : ℕ → MmpMetrics → ReportProcessed
+refused n m = answered n m (outcomeOf false log.None)
+
+unfoldable pub processOf : MmpMetrics → ReceiverReport → ℕ → ℕ → ReportProcessed
+processOf m rr ours now = cond (eqb (processRefusal m now) 0) (processed (counted m) rr ours now) (refused (processRefusal m now) m)
