@@ -1,11 +1,11 @@
 -- A field of two payloads that are alike, and the bytes of fields that stand one after the other. Assumes nothing.
-use Prim.Native.Nat.{ℕ, _+_, _-_, _≤_, _<_}
+use Prim.Native.Nat.{ℕ, _+_, _-_, _≤_}
 use mathlib.Core.Path.{_≡_, sym, ap, ap₂, _∙_}
 use mathlib.Core.List.{List, _++_, append-assoc}
-use lib.ListN.{length, getD, take, drop}
+use lib.ListN.{length, take, drop}
 use lib.Seq.{take-add, drop-drop}
 use native.Mathlib.Omega.{arith}
-use Rattle.codec.specs.LittleEndian.{leAt, leBytes, fieldAt}
+use Rattle.codec.specs.LittleEndian.{leBytes, fieldAt}
 use Rattle.codec.proofs.Widths.{field-here, read-alike, bytes-read}
 use Rattle.wire.specs.Payload.{AlikeOn, Bytes}
 

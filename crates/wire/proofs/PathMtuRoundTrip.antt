@@ -1,10 +1,8 @@
 -- Encoding and decoding a path MTU notification undo each other. Assumes nothing.
 use Prim.Native.Nat.{ℕ, _≤_, _<_, _^_}
-use mathlib.Core.Path.{_≡_, refl, ap, _∙_}
+use mathlib.Core.Path.{_≡_, refl, ap}
 use mathlib.Core.List.{List, []}
 use lib.ListN.{length, take}
-use native.Mathlib.Omega.{arith}
-use borrow.Author.Tests.{le-leb}
 use Rattle.codec.specs.LittleEndian.{leAt, leBytes, fieldAt}
 use Rattle.codec.proofs.Widths.{read-bytes}
 use Rattle.wire.specs.Payload.{Bytes}

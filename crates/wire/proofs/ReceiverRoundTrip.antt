@@ -1,18 +1,21 @@
 -- Encoding and decoding a receiver's report undo each other, and the reserved and trailing bytes of a payload do not matter. Assumes nothing.
 use Prim.Native.Nat.{ℕ, _+_, _≤_, _<_, _^_}
 use mathlib.Core.Path.{_≡_, refl, sym, ap, _∙_}
+use mathlib.Core.Bool.{Bool, true, false, cond}
 use mathlib.Core.List.{List, [], _∷_, _++_}
 use lib.ListN.{length, take, drop}
 use native.Mathlib.Omega.{arith}
-use borrow.Author.Tests.{le-leb}
+use borrow.Author.Tests.{le-leb, leb-true}
 use mir.Syntax.{w32}
 use mir.Val.{toZ, ofZ}
 use mir.Facts.{toZ-ofZ, ofZ-toZ, fits-ofZ}
 use Rattle.codec.specs.LittleEndian.{leAt, leBytes, fieldAt}
 use Rattle.codec.proofs.Widths.{read-bytes, field-small}
-use Rattle.wire.specs.Payload.{AlikeOn, Bytes}
-use Rattle.wire.specs.ReceiverReport.{encoded, encodedInto, reportIn, accepted, decoded, Fits}
+use lib.Dec.{leb}
+use Rattle.wire.specs.Payload.{AlikeOn, Bytes, roomAnswer}
+use Rattle.wire.specs.ReceiverReport.{encoded, encodeAnswer, encodedInto, reportIn, accepted, decoded, Fits}
 use Rattle.wire.specs.declared.receiver_report.ReceiverReport.{ReceiverReport}
+use Rattle.wire.specs.declared.receiver_report.Decoded.{Decoded}
 use Rattle.wire.proofs.Messages.{payload-alike, payload-length}
 use Rattle.wire.proofs.Fields.{field-alike, first-field, next-field}
 
@@ -82,6 +85,22 @@ round-trip-in r out h k =
     sym
     (decode-alike (drop 1 (encoded r)) payload (omega arith) (omega (arith, payload-length out (encoded r) k)) (λ i a b. same i a (omega arith)) (λ i a b. same i (omega arith) b))
     ∙ round-trip r h
+
+-- the jitter comes back whatever the other fields hold, from every buffer that has room
+pub jitter-back : (r : ReceiverReport) (out : List ℕ) → r .jitter < 2 ^ 32 → encodeAnswer out ≡ 0 →
+    (decoded (drop 1 (encodedInto out r)) .refusal ≡ 0) × (decoded (drop 1 (encodedInto out r)) .report .jitter ≡ r .jitter)
+unfolding encoded leBytes reportIn fieldAt leAt roomAnswer
+jitter-back r out h room =
+    let k : 68 ≤ length out = roomy (leb 68 (length out)) (leb-true 68 (length out)) room in
+    let payload = drop 1 (encodedInto out r) in
+    let same = payload-alike out (encoded r) 3 k in
+    let alike = decode-alike (drop 1 (encoded r)) payload (omega arith) (omega (arith, payload-length out (encoded r) k)) (λ i a b. same i a (omega arith)) (λ i a b. same i (omega arith) b) in
+    let own : decoded payload ≡ accepted (reportIn (drop 1 (encoded r))) = sym alike ∙ decodes (drop 1 (encoded r)) (omega (arith, own-length r)) in
+    (ap (λ (d : Decoded). d .refusal) own, ap (λ (d : Decoded). d .report .jitter) own ∙ read-bytes 4 (r .jitter) h)
+  where
+    roomy : (b : Bool) → (b ≡ true → 68 ≤ length out) → _≡_ {A = ℕ} (cond b 0 6) 0 → 68 ≤ length out
+    roomy true f e = f refl
+    roomy false f e = absurd (omega arith)
 
 -- ENCODING UNDOES DECODING: the fields' bytes are the payload's, and the reserved ones 0
 pub fields-back : (s : List ℕ) → Bytes s → 67 ≤ length s → drop 4 (encoded (reportIn s)) ≡ take 34 (drop 3 s) ++ (0 ∷ 0 ∷ []) ++ take 28 (drop 39 s)

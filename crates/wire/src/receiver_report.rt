@@ -73,7 +73,7 @@ impl ReceiverReport {
     }
 }
 
-fn no_report() -> ReceiverReport
+pub fn no_report() -> ReceiverReport
     ensures { λ r. ⌜ r ≡ noReport ⌝ }
 {
     ReceiverReport {

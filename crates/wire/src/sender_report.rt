@@ -10,6 +10,7 @@ use codec::fields::u64_at;
 use codec::reader::Length;
 use codec::reader::require;
 
+#[repr(C)]
 pub struct SenderReport {
     pub interval_start_counter: u64,
     pub interval_end_counter: u64,

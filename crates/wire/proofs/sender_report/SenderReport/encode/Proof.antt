@@ -1,5 +1,4 @@
 use borrow.Author.Needs.{needs}
-use native.Mathlib.Omega.{arith}
 use mathlib.Core.Path.{_∙_}
 use Rattle.codec.specs.LittleEndian.{leBytes}
 use Rattle.wire.specs.SenderReport.{encoded}

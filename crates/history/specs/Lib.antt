@@ -1,0 +1,9 @@
+pub mod Run
+pub mod Answers
+pub mod SenderCalls
+pub mod ReceiverCalls
+pub mod MetricsCalls
+pub mod ExactJitter
+pub mod ExactRoundTrip
+pub mod Ends
+pub mod NoCreep
