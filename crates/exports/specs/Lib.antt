@@ -1,2 +1,3 @@
 pub mod PayloadCheck
 pub mod Figures
+pub mod Lent

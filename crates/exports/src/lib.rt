@@ -1,4 +1,6 @@
 // What the Rust daemon and the differential tests call. The status is the return value: 0, or document 01's number.
+pub mod lent; // lent.rt: the sender's record
+
 ghost use mathlib.Core.Path.{_≡_};
 ghost use Rattle.exports.specs.PayloadCheck.{checkStatus, checkNeeded, checkGiven};
 ghost use Rattle.exports.specs.Figures.{jitterStatus, jitterInto, etxStatus, etxInto};

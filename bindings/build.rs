@@ -1,4 +1,4 @@
-//! Links libexports.a, which `rt staticlib exports` writes. RATTLE_LIBS names its folder, else target/staticlib at the top.
+//! Links libexports.a, which `rt staticlib exports` writes. RATTLE_LIBS names its folder, else target/staticlib at the top of the repository.
 
 use std::path::{Path, PathBuf};
 use std::{env, process};
@@ -7,14 +7,12 @@ fn main() {
     println!("cargo::rerun-if-env-changed=RATTLE_LIBS");
     let dir = match env::var_os("RATTLE_LIBS") {
         Some(dir) => PathBuf::from(dir),
-        None => Path::new(env!("CARGO_MANIFEST_DIR")).join("../../target/staticlib"),
+        None => Path::new(env!("CARGO_MANIFEST_DIR")).join("../target/staticlib"),
     };
     let archive = dir.join("libexports.a");
     if !archive.exists() {
-        eprintln!(
-            "exports: {} is missing: run `rt staticlib exports` at the top of the repository first",
-            archive.display()
-        );
+        eprintln!("siwolkert: {} is missing.", archive.display());
+        eprintln!("Run `rt staticlib exports` at the top of the repository, or name the archive's folder in RATTLE_LIBS.");
         process::exit(1);
     }
     println!("cargo::rerun-if-changed={}", archive.display());

@@ -1,0 +1,2 @@
+mod Held
+pub mod DecodedFromPosition
