@@ -51,7 +51,7 @@ impl Case {
     }
 }
 
-fn joined(numbers: &[u64]) -> String {
+pub fn joined(numbers: &[u64]) -> String {
     let words: Vec<String> = numbers.iter().map(u64::to_string).collect();
     words.join(" ")
 }

@@ -7,13 +7,13 @@ use crate::proto::mmp::algorithms::DualEwma;
 use crate::rng::Rng;
 
 #[derive(Clone, Copy)]
-struct State {
-    short: f64,
-    long: f64,
-    initialized: bool,
+pub struct State {
+    pub short: f64,
+    pub long: f64,
+    pub initialized: bool,
 }
 
-fn read(s: &DualEwma) -> State {
+pub fn read(s: &DualEwma) -> State {
     State {
         short: s.short(),
         long: s.long(),
@@ -22,7 +22,7 @@ fn read(s: &DualEwma) -> State {
 }
 
 impl State {
-    fn keeps(self) -> bool {
+    pub fn keeps(self) -> bool {
         in_range(self.short, 0.0, MAX_TREND) && in_range(self.long, 0.0, MAX_TREND)
     }
 
@@ -36,7 +36,7 @@ impl State {
         Numbers::of(&[call, self.short.to_bits(), self.long.to_bits(), self.initialized.into()])
     }
 
-    fn commit(self) -> DualEwma {
+    pub fn commit(self) -> DualEwma {
         ewma(self.short, self.long, self.initialized)
     }
 

@@ -1,12 +1,14 @@
 //! What the figures' cases share: the shape of an answer, floats, and numbers about the bounds of document 01.
 
 use crate::case::Numbers;
-use crate::rng::Rng;
+use crate::rng::{boundaries, Rng};
 
 /// The greatest delay, round trip and smoothed value: 2^42 µs.
 pub const MAX_US: i64 = 1 << 42;
 /// The greatest clock reading: 2^48 − 1 ms.
 pub const MAX_MS: u64 = (1 << 48) - 1;
+/// The greatest frame size: 2^32 − 1.
+pub const MAX_FRAME: u64 = (1 << 32) - 1;
 /// The greatest trend sample: 2^64.
 pub const MAX_TREND: f64 = 18_446_744_073_709_551_616.0;
 
@@ -93,5 +95,61 @@ pub fn near(rng: &mut Rng, bound: i64) -> i64 {
         1 => rng.number(8) as i64,
         2..=5 => (rng.draw() % 100_000) as i64 % (bound + 1),
         _ => (rng.draw() % (bound as u64 + 1)) as i64,
+    }
+}
+
+/// Clocks about 0 and about the bound.
+pub const CLOCKS: [u64; 7] = [0, 1, 1000, MAX_MS - 1, MAX_MS, MAX_MS + 1, u64::MAX];
+
+/// A clock: mostly in range.
+pub fn clock(rng: &mut Rng) -> u64 {
+    match rng.below(12) {
+        0 => CLOCKS[rng.below(CLOCKS.len())],
+        1 => boundaries(8)[rng.below(20)],
+        _ => rng.number(8) & MAX_MS,
+    }
+}
+
+/// A clock in range.
+pub fn clock_within(rng: &mut Rng) -> u64 {
+    clock(rng).min(MAX_MS)
+}
+
+/// The number, one less or one more, as far as there is one.
+pub fn beside(rng: &mut Rng, n: u64) -> u64 {
+    match rng.below(3) {
+        0 => n.saturating_sub(1),
+        1 => n,
+        _ => n.saturating_add(1),
+    }
+}
+
+pub fn maybe<T>(rng: &mut Rng, make: impl FnOnce(&mut Rng) -> T) -> Option<T> {
+    if rng.below(3) == 0 {
+        None
+    } else {
+        Some(make(rng))
+    }
+}
+
+/// A smoothed value for scheduling: a few ms to some seconds, about 0, or about the bound.
+pub fn smoothed(rng: &mut Rng) -> i64 {
+    match rng.below(4) {
+        0 => about(MAX_US)[rng.below(11)],
+        1 => near(rng, MAX_US),
+        _ => (rng.draw() % 8_000_000) as i64,
+    }
+}
+
+/// Interval bounds: mostly in order and in range.
+pub fn bounds(rng: &mut Rng) -> (u64, u64) {
+    match rng.below(8) {
+        0 => (clock(rng), clock(rng)),
+        1 => (rng.below(9000) as u64, rng.below(9000) as u64),
+        2 => (500, 10_000),
+        _ => {
+            let min_ms = rng.below(5000) as u64;
+            (min_ms, min_ms + rng.below(5000) as u64)
+        }
     }
 }

@@ -2,13 +2,15 @@
 //!     runs replay on N cases and compares each answer with the commit's
 //! oracle store DIR [--cases N] [--seed S]
 //!     writes DIR/stdin, a script, and DIR/stdout, the commit's answers
+//! oracle histories [--cases N] [--seed S]
+//!     runs N histories of a link, and some that are looked for, beside the exact averages
 
 use std::path::PathBuf;
 use std::process::ExitCode;
 use std::{env, fs, io};
 
 use oracle::case::{hush_commit, Case};
-use oracle::{report, script};
+use oracle::{histories, report, script};
 
 struct Options {
     cases: usize,
@@ -54,12 +56,18 @@ fn store(options: &Options) -> io::Result<bool> {
     Ok(true)
 }
 
+fn live(options: &Options) -> io::Result<bool> {
+    histories::run(options.seed, options.cases);
+    Ok(true)
+}
+
 fn main() -> ExitCode {
     hush_commit();
     let mut words = env::args().skip(1);
     let done = match words.next().as_deref() {
-        Some("compare") => options(words, 300_000).map(|o| compare(&o)),
+        Some("compare") => options(words, 600_000).map(|o| compare(&o)),
         Some("store") => options(words, 0).map(|o| store(&o)),
+        Some("histories") => options(words, 2000).map(|o| live(&o)),
         _ => None,
     };
     match done {
@@ -70,7 +78,9 @@ fn main() -> ExitCode {
             ExitCode::FAILURE
         }
         None => {
-            eprintln!("usage: oracle compare [--cases N] [--seed S] [--replay PATH] | oracle store DIR [--cases N] [--seed S]");
+            eprintln!("usage: oracle compare [--cases N] [--seed S] [--replay PATH]");
+            eprintln!("       oracle store DIR [--cases N] [--seed S]");
+            eprintln!("       oracle histories [--cases N] [--seed S]");
             ExitCode::FAILURE
         }
     }

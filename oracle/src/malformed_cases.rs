@@ -1,6 +1,6 @@
 //! Lines that are no call, or not the call's arguments.
 
-use crate::case::Case;
+use crate::case::{joined, Case};
 use crate::rng::Rng;
 
 /// One line for each way to be malformed.
@@ -35,6 +35,18 @@ pub fn boundary_cases() -> Vec<Case> {
         "345",
         "350",
         "358",
+        "400",
+        "418",
+        "450",
+        "459",
+        "460",
+        "467",
+        "500",
+        "519",
+        "600",
+        "620",
+        "630",
+        "638",
         "999",
         "18446744073709551615",
         // too large
@@ -90,6 +102,17 @@ pub fn boundary_cases() -> Vec<Case> {
         "341 0",
         "352 1 0 0 1",
         "352 1 0 0 0 0 0",
+        "401 0",
+        "407 1 2 3 4 5 6 7 0 0 0 200 0",
+        "407 1 2 3 4 5 6 7 0 0 0 200 0 0 0",
+        "452 0 0 0 0 0 0 0",
+        "461 0 0",
+        "463 0 0",
+        "463 0 0 0 0",
+        "501",
+        "511 1 2 0 3 4 5 6 2 0 0 0 0 0 0 0 0 0 0 0 0 1 2 0 0 0 0 0 0 200 0",
+        "511 1 2 0 3 4 5 6 2 0 0 0 0 0 0 0 0 0 0 0 0 1 2 0 0 0 0 0 0 200 0 0 0",
+        "507 1 2 0 3 4 5 6 2 0 0 0 0 0 0 0 0 0 0 0 0 1 2 0 0 0 0 0 0 200 0 0 9 2 0 0 2 0",
         // a number that does not fit its type
         "123 0 256 0",
         "124 0 65536 0",
@@ -116,6 +139,17 @@ pub fn boundary_cases() -> Vec<Case> {
         "352 1 0 0 2 0",
         "352 2 0 0 0 0",
         "355 1 0 0 0 0 2 0 0",
+        "407 1 2 3 4294967296 5 6 7 0 0 0 200 0 0",
+        "407 1 2 3 4 5 6 7 2 0 0 200 0 0",
+        "453 0 7 0 0 0 0 0",
+        "453 0 0 0 65536 0 0 0",
+        "463 0 1 0",
+        "463 0 0 1",
+        "463 2 0 0",
+        "463 1 0 4294967296",
+        "511 1 2 0 3 4294967296 5 6 2 0 0 0 0 0 0 0 0 0 0 0 0 1 2 0 0 0 0 0 0 200 0 0",
+        "511 1 2 0 3 4 5 6 2 0 0 0 0 7 0 0 0 0 0 0 0 1 2 0 0 0 0 0 0 200 0 0",
+        "511 1 2 0 3 4 5 6 2 0 0 0 0 0 0 0 0 0 0 0 0 1 2 0 0 0 0 2 0 200 0 0",
         "101 0 3 1 2 256",
         "101 0 3 1 2 18446744073709551615",
         // a buffer or window longer than its line, or than its most
@@ -129,6 +163,44 @@ pub fn boundary_cases() -> Vec<Case> {
     let bytes = |n: usize| vec!["7"; n].join(" ");
     lines.push(format!("101 0 1025 {}", bytes(1025)));
     lines.push(format!("334 2 0 0 4101 {} 0", bytes(4101)));
+    // metrics: a number of the 39 that does not fit, a report or a number too few or too many
+    let metrics = |call: u64, changes: &[(usize, u64)], more: &[u64]| {
+        let mut numbers = vec![call];
+        numbers.extend([0; 39]);
+        changes.iter().for_each(|(i, n)| numbers[*i] = *n);
+        numbers.extend(more);
+        joined(&numbers)
+    };
+    let word = 1 << 32;
+    for flag in [3, 6, 9, 12, 15, 18, 28, 30, 33, 38] {
+        lines.push(metrics(604, &[(flag, 2)], &[]));
+    }
+    for number in [26, 27] {
+        lines.push(metrics(604, &[(number, word)], &[]));
+    }
+    lines.push(metrics(604, &[(29, 1)], &[]));
+    lines.push(metrics(604, &[(39, 1)], &[]));
+    lines.push(metrics(618, &[(38, 1), (39, word)], &[]));
+    lines.push(metrics(604, &[], &[0]));
+    lines.push(metrics(605, &[], &[0]));
+    lines.push(metrics(603, &[], &[0; 15]));
+    lines.push(metrics(603, &[], &[0; 17]));
+    lines.push(metrics(603, &[], &[0, 0, 0, 0, 0, 0, 0, 0, 0, 0, 0, 0, 0, 0, word, 0]));
+    lines.push(joined(&[[606].as_slice(), &[0; 38]].concat()));
+    lines.push(joined(&[[631].as_slice(), &[0; 18]].concat()));
+    lines.push(joined(&[[632].as_slice(), &[0; 16]].concat()));
+    lines.extend(
+        [
+            "633 0 0",
+            "633 0 0 2",
+            "634 0 0 0",
+            "635 0",
+            "636",
+            "637 0 0 0 1 0",
+            "637 0 0 2 1 0",
+        ]
+        .map(String::from),
+    );
     // more numbers than the table holds
     lines.push(bytes(8500));
     lines.push(bytes(8501));

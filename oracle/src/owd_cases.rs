@@ -64,11 +64,9 @@ fn ring(rng: &mut Rng, capacity: usize, count: usize, first: usize, run: &Run) -
     let slope = rng.below(4001) as i64 - 2000;
     let start = rng.number(4) as u32 / 2;
     let mut all = Ring {
-        capacity,
         count,
         first,
-        times: vec![0; capacity],
-        delays: vec![0; capacity],
+        ..ring_of(capacity)
     };
     for k in 0..capacity {
         let slot = (first + k) % capacity;
@@ -82,6 +80,17 @@ fn ring(rng: &mut Rng, capacity: usize, count: usize, first: usize, run: &Run) -
         all.delays[slot] = d;
     }
     all
+}
+
+/// An empty ring with windows of zeros.
+pub fn ring_of(capacity: usize) -> Ring {
+    Ring {
+        capacity,
+        count: 0,
+        first: 0,
+        times: vec![0; capacity],
+        delays: vec![0; capacity],
+    }
 }
 
 /// Within ±2^42, often at an end.
@@ -108,7 +117,7 @@ fn any_run(rng: &mut Rng) -> Run {
 }
 
 /// States that break a clause of the rule, one each.
-fn lawless() -> [Ring; 9] {
+pub fn lawless() -> [Ring; 9] {
     let of = |capacity, count, first, len| Ring {
         capacity,
         count,
@@ -207,7 +216,7 @@ fn capacity(rng: &mut Rng) -> usize {
     }
 }
 
-fn any_ring(rng: &mut Rng) -> Ring {
+pub fn any_ring(rng: &mut Rng) -> Ring {
     let capacity = capacity(rng);
     let count = if rng.below(2) == 0 { capacity } else { rng.below(capacity + 1) };
     let run = any_run(rng);

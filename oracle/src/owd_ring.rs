@@ -51,17 +51,22 @@ impl Ring {
         owd(self.capacity, self.live())
     }
 
-    /// The ring after a push: one slot written, the oldest's where it was full. The commit's window is its live pairs.
-    pub fn pushed(&self, at_ms: u32, owd_us: i64) -> Ring {
-        let mut after = self.clone();
+    /// The ring with a pair more: one slot written, the oldest's where it was full.
+    pub fn placed(mut self, (at_ms, owd_us): (u32, i64)) -> Ring {
         let slot = (self.first + self.count) % self.capacity;
-        after.times[slot] = at_ms;
-        after.delays[slot] = owd_us;
+        self.times[slot] = at_ms;
+        self.delays[slot] = owd_us;
         if self.count < self.capacity {
-            after.count += 1;
+            self.count += 1;
         } else {
-            after.first = (self.first + 1) % self.capacity;
+            self.first = (self.first + 1) % self.capacity;
         }
+        self
+    }
+
+    /// The ring after a push. The commit's window is its live pairs.
+    pub fn pushed(&self, at_ms: u32, owd_us: i64) -> Ring {
+        let after = self.clone().placed((at_ms, owd_us));
         let mut c = self.commit();
         c.push(at_ms, owd_us);
         assert!(

@@ -1,10 +1,10 @@
 //! Calls 351 to 357: `SpinBitState`.
 
 use crate::case::{Case, Numbers};
-use crate::figures::{asked, first_no, optional, MAX_MS};
+use crate::figures::{asked, clock, first_no, optional, CLOCKS, MAX_MS};
 use crate::proto::mmp::algorithms::oracle_access::{spin, spin_fields};
 use crate::proto::mmp::algorithms::SpinBitState;
-use crate::rng::{boundaries, Rng};
+use crate::rng::Rng;
 
 #[derive(Clone, Copy)]
 struct State {
@@ -106,8 +106,6 @@ fn observe(s: State, bit: bool, counter: u64, now_ms: u64) -> Case {
     Case::new(line(357, s, bit, counter, now_ms), (answer, false))
 }
 
-const CLOCKS: [u64; 7] = [0, 1, 1000, MAX_MS - 1, MAX_MS, MAX_MS + 1, u64::MAX];
-
 pub fn boundary_cases() -> Vec<Case> {
     let mut cases = vec![new(false), new(true)];
     let mut edges = vec![None];
@@ -142,15 +140,6 @@ pub fn boundary_cases() -> Vec<Case> {
         }
     }
     cases
-}
-
-/// A clock: mostly in range.
-fn clock(rng: &mut Rng) -> u64 {
-    match rng.below(12) {
-        0 => CLOCKS[rng.below(CLOCKS.len())],
-        1 => boundaries(8)[rng.below(20)],
-        _ => rng.number(8) & MAX_MS,
-    }
 }
 
 pub fn random_case(rng: &mut Rng) -> Case {

@@ -7,13 +7,13 @@ use crate::proto::mmp::algorithms::SrttEstimator;
 use crate::rng::Rng;
 
 #[derive(Clone, Copy)]
-struct State {
-    srtt_us: i64,
-    rttvar_us: i64,
-    initialized: bool,
+pub struct State {
+    pub srtt_us: i64,
+    pub rttvar_us: i64,
+    pub initialized: bool,
 }
 
-fn read(s: &SrttEstimator) -> State {
+pub fn read(s: &SrttEstimator) -> State {
     State {
         srtt_us: s.srtt_us(),
         rttvar_us: s.rttvar_us(),
@@ -22,15 +22,15 @@ fn read(s: &SrttEstimator) -> State {
 }
 
 impl State {
-    fn keeps(self) -> bool {
+    pub fn keeps(self) -> bool {
         (0..=MAX_US).contains(&self.srtt_us) && (0..=MAX_US).contains(&self.rttvar_us)
     }
 
-    fn numbers(self) -> [u64; 3] {
+    pub fn numbers(self) -> [u64; 3] {
         [self.srtt_us as u64, self.rttvar_us as u64, self.initialized.into()]
     }
 
-    fn commit(self) -> SrttEstimator {
+    pub fn commit(self) -> SrttEstimator {
         srtt(self.srtt_us, self.rttvar_us, self.initialized)
     }
 

@@ -7,7 +7,7 @@ use crate::rng::{boundaries, Rng};
 
 /// The widths of the reports' fields.
 const SENDER: [usize; 7] = [8, 8, 4, 4, 4, 8, 8];
-const RECEIVER: [usize; 14] = [8, 8, 8, 4, 2, 2, 2, 4, 4, 4, 4, 4, 4, 4];
+pub const RECEIVER: [usize; 14] = [8, 8, 8, 4, 2, 2, 2, 4, 4, 4, 4, 4, 4, 4];
 /// The receiver's signed field, the one-way delay trend.
 const TREND: usize = 9;
 
@@ -23,7 +23,7 @@ fn sender(f: &[u64]) -> SenderReport {
     }
 }
 
-fn sender_fields(r: &SenderReport) -> [u64; 7] {
+pub fn sender_fields(r: &SenderReport) -> [u64; 7] {
     [
         r.interval_start_counter,
         r.interval_end_counter,
@@ -35,7 +35,7 @@ fn sender_fields(r: &SenderReport) -> [u64; 7] {
     ]
 }
 
-fn receiver(f: &[u64]) -> ReceiverReport {
+pub fn receiver(f: &[u64]) -> ReceiverReport {
     ReceiverReport {
         highest_counter: f[0],
         cumulative_packets_recv: f[1],
@@ -54,7 +54,7 @@ fn receiver(f: &[u64]) -> ReceiverReport {
     }
 }
 
-fn receiver_fields(r: &ReceiverReport) -> [u64; 14] {
+pub fn receiver_fields(r: &ReceiverReport) -> [u64; 14] {
     [
         r.highest_counter,
         r.cumulative_packets_recv,
@@ -102,12 +102,12 @@ fn decode_sender(payload: &[u8]) -> Case {
     Case::new(Numbers::of(&[202]).buffer(payload), decoded(answer))
 }
 
-fn encode_receiver(fields: &[u64], buffer: &[u8]) -> Case {
+pub fn encode_receiver(fields: &[u64], buffer: &[u8]) -> Case {
     let answer = laid(&receiver(fields).encode(), buffer);
     Case::new(Numbers::of(&[203]).and(fields).buffer(buffer), answer)
 }
 
-fn decode_receiver(payload: &[u8]) -> Case {
+pub fn decode_receiver(payload: &[u8]) -> Case {
     let answer = ReceiverReport::decode(payload).map(|r| receiver_fields(&r));
     Case::new(Numbers::of(&[204]).buffer(payload), decoded(answer))
 }
@@ -128,7 +128,7 @@ fn decode_path_mtu(body: &[u8]) -> Case {
 }
 
 /// A report's fields as its line has them.
-fn fields(rng: &mut Rng, widths: &[usize]) -> Vec<u64> {
+pub fn fields(rng: &mut Rng, widths: &[usize]) -> Vec<u64> {
     let mut all: Vec<u64> = widths.iter().map(|w| rng.number(*w)).collect();
     if widths.len() == RECEIVER.len() {
         all[TREND] = pattern(all[TREND] as i32);

@@ -23,15 +23,15 @@ pub fn u32_of(x: u64) -> u32 {
     (x % 4294967296) as u32
 }
 
-fn u16_of(x: u64) -> u16 {
+pub fn u16_of(x: u64) -> u16 {
     (x % 65536) as u16
 }
 
-fn wide(x: u32) -> u64 {
+pub fn wide(x: u32) -> u64 {
     x as u64
 }
 
-fn wide_u16(x: u16) -> u64 {
+pub fn wide_u16(x: u16) -> u64 {
     x as u64
 }
 
@@ -70,13 +70,13 @@ fn receiver_of(x: u64) -> ReceiverReport {
     }
 }
 
-fn sender_sum(r: SenderReport) -> u64 {
+pub fn sender_sum(r: SenderReport) -> u64 {
     let counters = r.interval_start_counter ^ r.interval_end_counter;
     let times = wide(r.interval_start_timestamp ^ r.interval_end_timestamp ^ r.interval_bytes_sent);
     counters ^ times ^ r.cumulative_packets_sent ^ r.cumulative_bytes_sent
 }
 
-fn receiver_sum(r: ReceiverReport) -> u64 {
+pub fn receiver_sum(r: ReceiverReport) -> u64 {
     let counts = r.highest_counter ^ r.cumulative_packets_recv ^ r.cumulative_bytes_recv;
     let bursts = wide_u16(r.dwell_time ^ r.max_burst_loss ^ r.mean_burst_loss);
     let delays = wide(

@@ -1,7 +1,12 @@
-// Runs a call of `wire` or `algorithms` many times, and writes a checksum of what it answered. Arguments: the call's number, as in docs/REPLAY.md, and how
-// often. Call 0 is the loop alone; 300 is the loop of the figures alone. The trend, 334, is over 32 pairs, and as 1334 over 4,096. oracle/src/bin/bench.rs is the same program over the commit's Rust.
+// Runs a call of `wire`, `algorithms` or a record many times, and writes a checksum of what it answered. Arguments: the call's number, as in
+// docs/REPLAY.md, and how often. Calls 0, 300, 400, 500 and 600 are the loops alone. The trend, 334, is over 32 pairs, and as 1334 over 4,096; a frame, 504, is
+// sampled, and as 1504 not; a report processed, 603, is fresh, and as 1603 late. oracle/src/bin/bench is the same program over the commit's Rust.
 mod calls;
-mod figures;
+mod estimators;
+mod processed;
+mod received;
+mod sent;
+mod table;
 
 use calls::Progress;
 use libc::STDOUT_FILENO;
@@ -62,7 +67,39 @@ fn run_figures(
     };
     let mut left = count;
     while left > 0 {
-        turn = figures::turn(call, turn, numbers, times, delays);
+        turn = estimators::turn(call, turn, numbers, times, delays);
+        left -= 1;
+    }
+    turn.sum
+}
+
+fn run_received(
+    call: u64,
+    count: u64,
+    numbers: &mut [u64],
+    times: &mut [u32],
+    delays: &mut [i64],
+) -> u64 {
+    let mut turn = Progress {
+        random: 88172645463325252,
+        sum: 0,
+    };
+    let mut left = count;
+    while left > 0 {
+        turn = received::turn(call, turn, numbers, times, delays);
+        left -= 1;
+    }
+    turn.sum
+}
+
+fn run_processed(call: u64, count: u64, numbers: &mut [u64], floats: &mut [f64]) -> u64 {
+    let mut turn = Progress {
+        random: 88172645463325252,
+        sum: 0,
+    };
+    let mut left = count;
+    while left > 0 {
+        turn = processed::turn(call, turn, numbers, floats);
         left -= 1;
     }
     turn.sum
@@ -81,8 +118,8 @@ fn figures_sum(call: u64, count: u64) -> u64 {
         call,
         count,
         &mut numbers,
-        figures::lent_times(&mut times, n),
-        figures::lent_delays(&mut delays, n),
+        estimators::lent_times(&mut times, n),
+        estimators::lent_delays(&mut delays, n),
     )
 }
 
@@ -92,11 +129,28 @@ fn reports_sum(call: u64, count: u64) -> u64 {
     run(call, count, &mut payload, &mut out)
 }
 
+fn received_sum(call: u64, count: u64) -> u64 {
+    let mut numbers = [0u64; 64];
+    let mut times = [0u32; 32];
+    let mut delays = [0i64; 32];
+    run_received(call, count, &mut numbers, &mut times, &mut delays)
+}
+
+fn processed_sum(call: u64, count: u64) -> u64 {
+    let mut numbers = [0u64; 64];
+    let mut floats = [0.0f64; 64];
+    run_processed(call, count, &mut numbers, &mut floats)
+}
+
+// A call's number less its thousands says whose it is.
 fn sum_of(call: u64, count: u64) -> u64 {
-    if call < 300 {
-        return reports_sum(call, count);
+    match call % 1000 / 100 {
+        3 => figures_sum(call, count),
+        4 => sent::sum(call, count),
+        5 => received_sum(call, count),
+        6 => processed_sum(call, count),
+        _ => reports_sum(call, count),
     }
-    figures_sum(call, count)
 }
 
 fn main() {

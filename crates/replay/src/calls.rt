@@ -1,39 +1,94 @@
-// The groups of calls. A call gets the line's numbers and the bytes of its last argument; it writes its answer and says how many numbers that has.
+// The groups of calls. A call gets the line's numbers, and its buffer or its windows where it takes them; it answers by value, but for the calls that answer
+// a part of their buffer.
+use crate::etx_calls;
+use crate::ewma_calls;
 use crate::field_calls;
 use crate::figure_calls;
+use crate::gap_calls;
+use crate::jitter_calls;
+use crate::metrics_calls;
+use crate::owd_calls;
 use crate::reader_calls;
+use crate::receiver_calls;
+use crate::reply::Reply;
+use crate::sample_calls;
+use crate::sender_calls;
 use crate::shape::last_argument;
+use crate::spin_calls;
+use crate::srtt_calls;
 use crate::tables::bytes_of;
 use crate::tables::lent;
+use crate::tables::push_buffer;
 use crate::tables::u64_of;
+use crate::window_calls;
 use crate::wire_calls;
 use crate::writer_calls;
 
-// The answer to a line: 0 numbers where the line is malformed.
+// The answer to a line, and how many numbers it has: 0 where the line is malformed.
 pub fn answer(given: &[u64], answer: &mut [u64]) -> usize {
-    let at = last_argument(given);
-    if at >= given.len() {
-        return 0;
+    let last = last_argument(given);
+    if last < given.len() {
+        return called(given, last, answer);
     }
-    if u64_of(given, 0) > 300 {
-        return figure_calls::answer(given, answer);
+    0
+}
+
+fn called(given: &[u64], last: usize, answer: &mut [u64]) -> usize {
+    match u64_of(given, 0) {
+        101..=207 => with_bytes(given, last, answer),
+        333 | 334 | 466 | 504 | 505 | 507 => window_calls::answer(given, answer),
+        _ => reply_of(given).push(answer),
     }
-    with_bytes(given, at, answer)
+}
+
+// The calls on numbers and records alone.
+fn reply_of(given: &[u64]) -> Reply {
+    match u64_of(given, 0) {
+        301..=306 => jitter_calls::answer(given),
+        311..=318 => srtt_calls::answer(given),
+        321..=328 => ewma_calls::answer(given),
+        331..=336 => owd_calls::answer(given),
+        341..=344 => etx_calls::answer(given),
+        351..=357 => spin_calls::answer(given),
+        401..=417 => sender_calls::answer(given),
+        451..=458 => gap_calls::answer(given),
+        461..=465 => sample_calls::answer(given),
+        501..=518 => receiver_calls::answer(given),
+        601..=619 => metrics_calls::answer(given),
+        _ => figure_calls::answer(given),
+    }
 }
 
 // A call whose last argument, at `at`, may be a buffer.
 fn with_bytes(given: &[u64], at: usize, answer: &mut [u64]) -> usize {
     let mut room = [0u8; 1024];
     let n = bytes_of(given, at, &mut room);
-    called(given, lent(&mut room, n), answer)
+    on_bytes(given, lent(&mut room, n), answer)
 }
 
-fn called(given: &[u64], bytes: &mut [u8], answer: &mut [u64]) -> usize {
+fn on_bytes(given: &[u64], bytes: &mut [u8], answer: &mut [u64]) -> usize {
     match u64_of(given, 0) {
-        101..=112 => reader_calls::answer(given, bytes, answer),
-        121..=129 => writer_calls::answer(given, bytes, answer),
-        141..=155 => field_calls::answer(given, bytes, answer),
-        201..=207 => wire_calls::answer(given, bytes, answer),
-        _ => 0,
+        102 => reader_calls::rest(given, bytes, answer),
+        109 => reader_calls::read_bytes(given, bytes, answer),
+        129 => writer_calls::into_vec(given, bytes, answer),
+        _ => with_reply(given, bytes, answer),
+    }
+}
+
+fn with_reply(given: &[u64], bytes: &mut [u8], answer: &mut [u64]) -> usize {
+    let reply = reply_on(given, bytes);
+    let n = reply.push(answer);
+    if reply.with_buffer {
+        return push_buffer(answer, n, bytes);
+    }
+    n
+}
+
+fn reply_on(given: &[u64], bytes: &mut [u8]) -> Reply {
+    match u64_of(given, 0) {
+        101..=112 => reader_calls::answer(given, bytes),
+        121..=128 => writer_calls::answer(given, bytes),
+        141..=155 => field_calls::answer(given, bytes),
+        _ => wire_calls::answer(given, bytes),
     }
 }

@@ -1,8 +1,8 @@
 // Calls 141 to 155: little-endian fields.
+use crate::reply::Reply;
+use crate::reply::one;
 use crate::tables::i32_of;
 use crate::tables::pattern;
-use crate::tables::push;
-use crate::tables::push_buffer;
 use crate::tables::u8_of;
 use crate::tables::u16_of;
 use crate::tables::u32_of;
@@ -14,35 +14,30 @@ use crate::tables::wide_u16;
 use crate::tables::wide_u32;
 use codec::fields;
 
-pub fn answer(given: &[u64], buffer: &mut [u8], answer: &mut [u64]) -> usize {
+pub fn answer(given: &[u64], buffer: &mut [u8]) -> Reply {
     match u64_of(given, 0) {
-        141..=148 => push(answer, 0, field(given, buffer)),
-        _ => stored(given, buffer, answer),
+        141..=148 => one(field(given, buffer)),
+        _ => stored(given, buffer),
     }
 }
 
 fn field(given: &[u64], s: &[u8]) -> u64 {
+    let at = usize_of(given, 1);
     match u64_of(given, 0) {
-        147 => pattern(fields::signed32(u32_of(given, 1))),
-        148 => wide_u32(fields::bits32(i32_of(given, 1))),
-        _ => field_at(u64_of(given, 0), s, usize_of(given, 1)),
-    }
-}
-
-fn field_at(call: u64, s: &[u8], at: usize) -> u64 {
-    match call {
         141 => wide_u8(fields::u8_at(s, at)),
         142 => wide_u16(fields::u16_at(s, at)),
         143 => wide_u32(fields::u32_at(s, at)),
         144 => fields::u64_at(s, at),
         145 => pattern(fields::i32_at(s, at)),
-        _ => wide(fields::left_at(s, at)),
+        146 => wide(fields::left_at(s, at)),
+        147 => pattern(fields::signed32(u32_of(given, 1))),
+        _ => wide_u32(fields::bits32(i32_of(given, 1))),
     }
 }
 
-fn stored(given: &[u64], buffer: &mut [u8], answer: &mut [u64]) -> usize {
+fn stored(given: &[u64], buffer: &mut [u8]) -> Reply {
     store(given, buffer);
-    push_buffer(answer, 0, buffer)
+    Reply::new().and_buffer()
 }
 
 fn store(given: &[u64], buffer: &mut [u8]) {

@@ -1,47 +1,73 @@
-// Calls 301 to 357: the figures of `algorithms`. A group answers by value, in eight numbers of which a call's table says how many count; only the two calls
-// on windows write the answer themselves.
-use crate::etx_calls;
-use crate::ewma_calls;
-use crate::jitter_calls;
-use crate::owd_calls;
-use crate::spin_calls;
-use crate::srtt_calls;
-use crate::tables::first;
-use crate::tables::push_all;
+// Calls 631 to 637: what one report says of a link.
+use crate::reply::Reply;
+use crate::reply::one;
+use crate::reply::two;
+use crate::srtt_calls::round_trip_of;
+use crate::tables::f64_of;
+use crate::tables::flag;
+use crate::tables::float_pattern;
+use crate::tables::from;
+use crate::tables::optional_of;
+use crate::tables::u32_of;
 use crate::tables::u64_of;
+use crate::tables::wide_u32;
+use crate::wire_calls::receiver_of;
+use figures::Counters;
+use figures::RoundTrip;
+use figures::delivery_ratio;
+use figures::goodput_after;
+use figures::goodput_ok;
+use figures::is_stale;
+use figures::round_trip;
+use figures::smoothed_ms;
+use figures::tallies_ok;
 
-pub fn answer(given: &[u64], answer: &mut [u64]) -> usize {
+pub fn answer(given: &[u64]) -> Reply {
     match u64_of(given, 0) {
-        333 | 334 => owd_calls::on_windows(given, answer),
-        _ => scalar(given, answer),
+        631 => one(flag(is_stale(counters_of(given), receiver_of(from(given, 6))))),
+        632 => of_round_trip(round_trip(receiver_of(from(given, 1)), u32_of(given, 15))),
+        633 => one(float_pattern(smoothed_ms(round_trip_of(from(given, 1))))),
+        634 => of_tallies(given),
+        635 => one(float_pattern(delivery_ratio(u64_of(given, 1), u64_of(given, 2)))),
+        636 => one(flag(goodput_ok(f64_of(given, 1)))),
+        _ => of_goodput(given),
     }
 }
 
-fn scalar(given: &[u64], answer: &mut [u64]) -> usize {
-    let numbers = numbers_of(given);
-    push_all(answer, 0, first(&numbers, count_of(u64_of(given, 0))))
-}
-
-fn numbers_of(given: &[u64]) -> [u64; 8] {
-    match u64_of(given, 0) {
-        301..=306 => jitter_calls::answer(given),
-        311..=318 => srtt_calls::answer(given),
-        321..=328 => ewma_calls::answer(given),
-        331..=336 => owd_calls::answer(given),
-        341..=344 => etx_calls::answer(given),
-        _ => spin_calls::answer(given),
+fn counters_of(given: &[u64]) -> Counters {
+    Counters {
+        highest: u64_of(given, 1),
+        packets: u64_of(given, 2),
+        bytes: u64_of(given, 3),
+        ecn: u32_of(given, 4),
+        reorders: u32_of(given, 5),
     }
 }
 
-// How many numbers the answer to a call has.
-fn count_of(call: u64) -> usize {
-    match call {
-        301 | 302 | 305 | 306 | 317 | 327 | 335 | 336 | 343 | 344 | 356 => 1,
-        303 | 304 | 314..=316 | 324..=326 | 341 | 342 | 353 | 354 => 2,
-        311 | 312 | 318 | 321 | 322 | 328 | 331 => 3,
-        313 | 323 | 332 => 4,
-        351 => 5,
-        352 => 6,
-        _ => 8,
+fn of_round_trip(trip: RoundTrip) -> Reply {
+    match trip {
+        RoundTrip::NoEcho => two(0, 0),
+        RoundTrip::Sample(ms) => two(1, wide_u32(ms)),
+        RoundTrip::Zero => two(2, 0),
+        RoundTrip::ArithFail => two(3, 0),
     }
+}
+
+fn of_tallies(given: &[u64]) -> Reply {
+    one(flag(tallies_ok(
+        u64_of(given, 1),
+        u64_of(given, 2),
+        u64_of(given, 3),
+        u64_of(given, 4),
+    )))
+}
+
+fn of_goodput(given: &[u64]) -> Reply {
+    let prev_ms = optional_of(from(given, 3));
+    one(float_pattern(goodput_after(
+        f64_of(given, 1),
+        u64_of(given, 2),
+        prev_ms,
+        u64_of(given, 5),
+    )))
 }

@@ -1,18 +1,17 @@
 // Calls 301 to 306: `JitterEstimator`.
+use crate::reply::Reply;
+use crate::reply::of_u32;
+use crate::reply::one;
+use crate::reply::refusal;
 use crate::tables::flag;
 use crate::tables::i32_of;
 use crate::tables::i64_of;
-use crate::tables::one;
 use crate::tables::pattern64;
-use crate::tables::two;
 use crate::tables::u64_of;
-use crate::tables::wide_u8;
-use crate::tables::wide_u32;
 use algorithms::jitter::JitterEstimator;
 use algorithms::jitter::JitterUpdate;
-use refusals::answer::AnswerU32;
 
-pub fn answer(given: &[u64]) -> [u64; 8] {
+pub fn answer(given: &[u64]) -> Reply {
     let s = JitterEstimator {
         jitter_q4: i64_of(given, 1),
     };
@@ -26,15 +25,11 @@ pub fn answer(given: &[u64]) -> [u64; 8] {
     }
 }
 
-fn of_state(s: JitterEstimator) -> [u64; 8] {
+fn of_state(s: JitterEstimator) -> Reply {
     one(pattern64(s.jitter_q4))
 }
 
-fn of_update(u: JitterUpdate) -> [u64; 8] {
+fn of_update(u: JitterUpdate) -> Reply {
     let s = u.state;
-    two(wide_u8(u.refusal), pattern64(s.jitter_q4))
-}
-
-fn of_u32(a: AnswerU32) -> [u64; 8] {
-    two(wide_u8(a.refusal), wide_u32(a.value))
+    refusal(u.refusal).and_i64(s.jitter_q4)
 }

@@ -4,15 +4,22 @@ mod etx_calls;
 mod ewma_calls;
 mod field_calls;
 mod figure_calls;
+mod gap_calls;
 mod jitter_calls;
+mod metrics_calls;
 mod owd_calls;
 mod reader_calls;
+mod receiver_calls;
+mod reply;
+mod sample_calls;
 mod scan;
+mod sender_calls;
 mod shape;
 mod spin_calls;
 mod srtt_calls;
 mod tables;
 mod text;
+mod window_calls;
 mod windows;
 mod wire_calls;
 mod writer_calls;
@@ -29,17 +36,11 @@ struct Progress {
 }
 
 // A byte of the script.
-fn take_byte(
-    p: Progress,
-    b: u8,
-    given: &mut [u64],
-    answer: &mut [u64],
-    out: &mut [u8],
-) -> Progress {
+fn take_byte(p: Progress, b: u8, given: &mut [u64], out: &mut [u8]) -> Progress {
     let scan = p.scan;
     let waiting = p.waiting;
     if b == b'\n' {
-        let written = end_line(scan, waiting, given, answer, out);
+        let written = end_line(scan, waiting, given, out);
         let next = scan::next_line(scan);
         return Progress {
             scan: next,
@@ -56,46 +57,40 @@ fn take_byte(
 }
 
 // The answer to the line that ends here.
-fn end_line(
-    line: Scan,
-    waiting: usize,
-    given: &mut [u64],
-    answer: &mut [u64],
-    out: &mut [u8],
-) -> usize {
+fn end_line(line: Scan, waiting: usize, given: &mut [u64], out: &mut [u8]) -> usize {
     let whole = scan::end_number(line, given);
     if whole.malformed {
         return text::malformed(out, waiting, line.line);
     }
-    let n = calls::answer(tables::first(given, whole.count), answer);
-    if n == 0 {
-        return text::malformed(out, waiting, line.line);
-    }
-    text::line(out, waiting, tables::first(answer, n))
+    answered(tables::first(given, whole.count), line.line, waiting, out)
 }
 
-fn take_bytes(
-    p: Progress,
-    bytes: &[u8],
-    given: &mut [u64],
-    answer: &mut [u64],
-    out: &mut [u8],
-) -> Progress {
+// The answer to a line of numbers.
+fn answered(given: &[u64], line: u64, waiting: usize, out: &mut [u8]) -> usize {
+    let mut answer = [0u64; 8500];
+    let n = calls::answer(given, &mut answer);
+    if n == 0 {
+        return text::malformed(out, waiting, line);
+    }
+    text::line(out, waiting, tables::first(&answer, n))
+}
+
+fn take_bytes(p: Progress, bytes: &[u8], given: &mut [u64], out: &mut [u8]) -> Progress {
     let mut progress = p;
     let mut i = 0;
     while i < bytes.len() {
-        progress = take_byte(progress, bytes[i], given, answer, out);
+        progress = take_byte(progress, bytes[i], given, out);
         i += 1;
     }
     progress
 }
 
 // What is left when the script ends: a last line that no line feed ends, and the text.
-fn end_script(p: Progress, given: &mut [u64], answer: &mut [u64], out: &mut [u8]) {
+fn end_script(p: Progress, given: &mut [u64], out: &mut [u8]) {
     let scan = p.scan;
     let waiting = p.waiting;
     if scan.begun {
-        let written = end_line(scan, waiting, given, answer, out);
+        let written = end_line(scan, waiting, given, out);
         io::write_all(STDOUT_FILENO, tables::first_bytes(out, written));
         return;
     }
@@ -103,13 +98,7 @@ fn end_script(p: Progress, given: &mut [u64], answer: &mut [u64], out: &mut [u8]
 }
 
 // Reads once, and answers what came.
-fn take_some(
-    p: Progress,
-    chunk: &mut [u8],
-    given: &mut [u64],
-    answer: &mut [u64],
-    out: &mut [u8],
-) -> Progress {
+fn take_some(p: Progress, chunk: &mut [u8], given: &mut [u64], out: &mut [u8]) -> Progress {
     let got = libc::read(STDIN_FILENO, chunk);
     if got <= 0 {
         let mut last = p;
@@ -117,11 +106,11 @@ fn take_some(
         return last;
     }
     let n = io::count(got, chunk);
-    take_bytes(p, tables::first_bytes(chunk, n), given, answer, out)
+    take_bytes(p, tables::first_bytes(chunk, n), given, out)
 }
 
 // A proved loop has to end, and nothing says that the script does. So the loop counts its turns down, from a number that no run uses up.
-fn run(chunk: &mut [u8], given: &mut [u64], answer: &mut [u64], out: &mut [u8]) {
+fn run(chunk: &mut [u8], given: &mut [u64], out: &mut [u8]) {
     let mut progress = Progress {
         scan: scan::new(),
         waiting: 0,
@@ -129,16 +118,15 @@ fn run(chunk: &mut [u8], given: &mut [u64], answer: &mut [u64], out: &mut [u8]) 
     };
     let mut turns = u64::MAX;
     while turns > 0 && !progress.ended {
-        progress = take_some(progress, chunk, given, answer, out);
+        progress = take_some(progress, chunk, given, out);
         turns -= 1;
     }
-    end_script(progress, given, answer, out);
+    end_script(progress, given, out);
 }
 
 fn main() {
     let mut chunk = io::large_buffer();
     let mut given = [0u64; 8500];
-    let mut answer = [0u64; 8500];
     let mut out = io::large_buffer();
-    run(&mut chunk, &mut given, &mut answer, &mut out);
+    run(&mut chunk, &mut given, &mut out);
 }

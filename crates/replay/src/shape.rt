@@ -2,6 +2,8 @@
 //   1 2 4 8   an unsigned number of so many bytes; 8 also the pattern of an i64 or an f64
 //   3         a bool, 0 or 1
 //   5         an optional number: 0 and 0, or 1 and the number
+//   6         a reference: 0, 0 and 0, or 1, its receive time and its timestamp
+//   7         an optional number of four bytes
 //   a         the 64-bit pattern of an i32
 //   b         a buffer: its length, at most 1,024, and its bytes
 //   c d       a window: its length, at most 4,100, and its times (c) or its delays (d)
@@ -53,6 +55,35 @@ fn after_optional(given: &[u64], at: usize) -> usize {
     at
 }
 
+// The place after the optional number of four bytes at `at`; `at` itself where there is none.
+fn after_optional_u32(given: &[u64], at: usize) -> usize {
+    let next = after_optional(given, at);
+    if at >= next {
+        return at;
+    }
+    if u64_of(given, next - 1) < 4294967296 {
+        return next;
+    }
+    at
+}
+
+// The place after the reference at `at`; `at` itself where there is none.
+fn after_reference(given: &[u64], at: usize) -> usize {
+    let next = after_optional(given, at);
+    if at >= next {
+        return at;
+    }
+    if next >= given.len() {
+        return at;
+    }
+    let timestamp = u64_of(given, next);
+    let absent = u64_of(given, at) == 0;
+    if (timestamp < 4294967296) & (!absent | (timestamp == 0)) {
+        return next + 1;
+    }
+    at
+}
+
 // The place after the buffer or window at `at`, of at most `most` numbers, each at most `greatest`; `at` itself where there is none.
 fn after_table(given: &[u64], at: usize, most: u64, greatest: u64) -> usize {
     if at >= given.len() {
@@ -76,6 +107,8 @@ fn after_table(given: &[u64], at: usize, most: u64, greatest: u64) -> usize {
 fn after(given: &[u64], at: usize, kind: u64) -> usize {
     match kind {
         5 => after_optional(given, at),
+        6 => after_reference(given, at),
+        7 => after_optional_u32(given, at),
         0xb => after_table(given, at, 1024, 255),
         0xc => after_table(given, at, 4100, 4294967295),
         0xd => after_table(given, at, 4100, 18446744073709551615),
@@ -115,26 +148,66 @@ fn step(given: &[u64], w: Walk, kind: u64) -> Walk {
     }
 }
 
-// The place of the last argument (of the call itself where it takes none) if the numbers after the call's are the arguments of that shape, with none left
-// over; else the count of the numbers.
-fn last(given: &[u64], shape: u64) -> usize {
-    let mut walk = Walk {
-        last: 0,
-        next: 1,
-        fits: true,
-    };
+// Over the arguments of a shape.
+fn over(given: &[u64], start: Walk, shape: u64) -> Walk {
+    let mut walk = start;
     let mut unit = 0x1000000000000000;
     while unit > 0 {
         walk = step(given, walk, shape / unit % 16);
         unit = unit / 16;
     }
+    walk
+}
+
+// The place of the last argument (of the call itself where it takes none) if the numbers after the call's are its record and its arguments, with none left
+// over; else the count of the numbers.
+pub fn last_argument(given: &[u64]) -> usize {
+    let call = u64_of(given, 0);
+    let start = Walk {
+        last: 0,
+        next: 1,
+        fits: true,
+    };
+    let part = over(given, start, record_of(call));
+    let half = over(given, part, record_after(call));
+    let record = over(given, half, record_end(call));
+    let walk = over(given, record, shape_of(call));
     if walk.fits & (walk.next == given.len()) {
         return walk.last;
     }
     given.len()
 }
 
-// The shape of a call; 0xf for a call that is none, which no number fits.
+// The fields of the record that a call of 400 and more has before its arguments; of a receiver, up to its reference; of metrics, up to the jitter trend.
+fn record_of(call: u64) -> u64 {
+    match call {
+        404..=416 => 0x8884484338844,
+        452..=457 => 0x532428,
+        504..=518 => 0x88884488886,
+        603..=619 => 0x883883883883883,
+        631 => 0x88844,
+        _ => 0,
+    }
+}
+
+// The fields that are left of a receiver; of metrics, up to the report kept.
+fn record_after(call: u64) -> u64 {
+    match call {
+        504..=518 => 0x53242844555834,
+        603..=619 => 0x88388888884453,
+        _ => 0,
+    }
+}
+
+// The fields that are left of metrics.
+fn record_end(call: u64) -> u64 {
+    match call {
+        603..=619 => 0x88388887,
+        _ => 0,
+    }
+}
+
+// The shape of a call's arguments; 0xf for a call that is none, which no number fits.
 fn shape_of(call: u64) -> u64 {
     match call {
         101 | 102 | 105..=108 | 110..=112 | 122 | 129 | 141..=146 => 0x8b,
@@ -153,7 +226,9 @@ fn shape_of(call: u64) -> u64 {
         206 => 0x2b,
         202 | 204 | 207 => 0xb,
         205 => 2,
-        _ => shape_of_figure(call),
+        301..=357 => shape_of_figure(call),
+        601..=637 => shape_of_link(call),
+        _ => shape_of_state(call),
     }
 }
 
@@ -176,7 +251,41 @@ fn shape_of_figure(call: u64) -> u64 {
     }
 }
 
-// The same for the call that the line names.
-pub fn last_argument(given: &[u64]) -> usize {
-    last(given, shape_of(u64_of(given, 0)))
+// What a call on a state, or on a part of one, takes beside its record.
+fn shape_of_state(call: u64) -> u64 {
+    match call {
+        401 | 402 | 407..=409 | 412..=416 | 451 | 453..=455 | 502 | 511..=518 => 0,
+        403 | 405 | 406 | 410 | 452 | 456 | 457 | 501 | 506 | 508 | 509 => 8,
+        404 => 0x848,
+        411 | 510 => 0x888,
+        417 => 4,
+        458 => 0x84,
+        461 => 0x58,
+        462 => 0x85448,
+        463 => 6,
+        464 => 0x684,
+        465 => 0x548,
+        466 => 0x888648cd,
+        503 => 0x88,
+        504 => 0x848383cd,
+        505 => 0x84838cd,
+        507 => 0x8cd,
+        _ => 0xf,
+    }
+}
+
+// What a call on metrics, or on a figure of them, takes beside its record.
+fn shape_of_link(call: u64) -> u64 {
+    match call {
+        601 | 602 | 604 | 606..=619 => 0,
+        603 => 0x888422244a444448,
+        605 | 635 => 0x88,
+        631 => 0x888422244a4444,
+        632 => 0x888422244a44444,
+        633 => 0x883,
+        634 => 0x8888,
+        636 => 8,
+        637 => 0x8858,
+        _ => 0xf,
+    }
 }

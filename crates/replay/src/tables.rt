@@ -3,14 +3,22 @@ use codec::fields::bits32;
 use codec::fields::signed32;
 use numbers::signs::signed;
 use numbers::signs::unsigned;
-use refusals::answer::AnswerBool;
-use refusals::answer::AnswerF64;
+use refusals::option::OptionU32;
+use refusals::option::OptionU64;
 
 pub fn first(s: &[u64], n: usize) -> &[u64] {
     if n <= s.len() {
         return &s[0..n];
     }
     s
+}
+
+// What stands from the place n on.
+pub fn from(s: &[u64], n: usize) -> &[u64] {
+    if n <= s.len() {
+        return &s[n..];
+    }
+    &s[0..0]
 }
 
 pub fn first_bytes(s: &[u8], n: usize) -> &[u8] {
@@ -118,6 +126,38 @@ pub fn flag(b: bool) -> u64 {
     if b { 1 } else { 0 }
 }
 
+// The optional number that these numbers begin with.
+pub fn optional_of(given: &[u64]) -> OptionU64 {
+    if flag_of(given, 0) {
+        OptionU64::Some(u64_of(given, 1))
+    } else {
+        OptionU64::None
+    }
+}
+
+// The same of four bytes.
+pub fn optional_u32_of(given: &[u64]) -> OptionU32 {
+    if flag_of(given, 0) {
+        OptionU32::Some(u32_of(given, 1))
+    } else {
+        OptionU32::None
+    }
+}
+
+pub fn is_there(n: OptionU64) -> u64 {
+    match n {
+        OptionU64::None => 0,
+        OptionU64::Some(_) => 1,
+    }
+}
+
+pub fn number(n: OptionU64) -> u64 {
+    match n {
+        OptionU64::None => 0,
+        OptionU64::Some(n) => n,
+    }
+}
+
 // The place after a buffer whose length stands at `at`.
 pub fn after_bytes(given: &[u64], at: usize) -> usize {
     let n = usize_of(given, at);
@@ -199,29 +239,4 @@ pub fn push_span(answer: &mut [u64], n: usize, s: &[u8], start: usize, end: usiz
         }
     }
     n
-}
-
-// Answers of a few numbers, 0 behind them.
-pub fn one(a: u64) -> [u64; 8] {
-    [a, 0, 0, 0, 0, 0, 0, 0]
-}
-
-pub fn two(a: u64, b: u64) -> [u64; 8] {
-    [a, b, 0, 0, 0, 0, 0, 0]
-}
-
-pub fn three(a: u64, b: u64, c: u64) -> [u64; 8] {
-    [a, b, c, 0, 0, 0, 0, 0]
-}
-
-pub fn four(a: u64, b: u64, c: u64, d: u64) -> [u64; 8] {
-    [a, b, c, d, 0, 0, 0, 0]
-}
-
-pub fn of_bool(a: AnswerBool) -> [u64; 8] {
-    two(wide_u8(a.refusal), flag(a.value))
-}
-
-pub fn of_f64(a: AnswerF64) -> [u64; 8] {
-    two(wide_u8(a.refusal), float_pattern(a.value))
 }

@@ -36,6 +36,10 @@ pub mod oracle_access {
         (s.capacity, s.samples.clone())
     }
 
+    pub fn owd_size(s: &OwdTrendDetector) -> (usize, usize) {
+        (s.capacity, s.samples.len())
+    }
+
     pub fn owd_set(s: &mut OwdTrendDetector, k: usize, pair: (u32, i64)) {
         s.samples[k] = pair;
     }

@@ -7,10 +7,10 @@ use Rattle.replay.proofs.run.Statement.{statement}
 use Rattle.replay.proofs.run.Tie as tie
 
 abbrev Inv-loop : tie.InvT-loop
-Inv-loop chunk₀ given₀ answer₀ out₀ progress₀ turns₀ chunk given answer out progress turns = (length chunk ≡ length chunk₀) × ((length given ≡ length given₀) × ((length answer ≡ length answer₀) × (length out ≡ length out₀)))
+Inv-loop chunk₀ given₀ out₀ progress₀ turns₀ chunk given out progress turns = (length chunk ≡ length chunk₀) × ((length given ≡ length given₀) × (length out ≡ length out₀))
 
 abbrev μ-loop : tie.MeasureT-loop
-μ-loop chunk₀ given₀ answer₀ out₀ progress₀ turns₀ chunk given answer out progress turns = turns
+μ-loop chunk₀ given₀ out₀ progress₀ turns₀ chunk given out progress turns = turns
 
 new-requires : tie.Need-new-requires Inv-loop μ-loop
 new-requires c κs = search needs
@@ -42,9 +42,6 @@ same-length-2 c = search needs
 same-length-3 : tie.Need-same-length-3 Inv-loop μ-loop
 same-length-3 c = search needs
 
-same-length-4 : tie.Need-same-length-4 Inv-loop μ-loop
-same-length-4 c = search needs
-
 returns : tie.Need-returns Inv-loop μ-loop
 returns c = search needs
 
@@ -64,5 +61,4 @@ run-spec =
     same-length
     same-length-2
     same-length-3
-    same-length-4
     returns)

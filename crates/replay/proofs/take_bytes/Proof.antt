@@ -8,10 +8,10 @@ use Rattle.replay.proofs.take_bytes.Statement.{statement}
 use Rattle.replay.proofs.take_bytes.Tie as tie
 
 abbrev Inv-loop : tie.InvT-loop
-Inv-loop bytes given₀ answer₀ out₀ progress₀ i₀ given answer out progress i = (i ≤ length bytes) × ((length given ≡ length given₀) × ((length answer ≡ length answer₀) × (length out ≡ length out₀)))
+Inv-loop bytes given₀ out₀ progress₀ i₀ given out progress i = (i ≤ length bytes) × ((length given ≡ length given₀) × (length out ≡ length out₀))
 
 abbrev μ-loop : tie.MeasureT-loop
-μ-loop bytes given₀ answer₀ out₀ progress₀ i₀ given answer out progress i = length bytes - i
+μ-loop bytes given₀ out₀ progress₀ i₀ given out progress i = length bytes - i
 
 loop-holds : tie.Need-loop-holds Inv-loop μ-loop
 loop-holds c = search needs
@@ -37,9 +37,6 @@ same-length c = search needs
 same-length-2 : tie.Need-same-length-2 Inv-loop μ-loop
 same-length-2 c = search needs
 
-same-length-3 : tie.Need-same-length-3 Inv-loop μ-loop
-same-length-3 c = search needs
-
 returns : tie.Need-returns Inv-loop μ-loop
 returns c = search needs
 
@@ -57,5 +54,4 @@ take-bytes-spec =
     loop-again
     same-length
     same-length-2
-    same-length-3
     returns)

@@ -1,6 +1,11 @@
 //! bench CALL COUNT: the twin of crates/bench over the commit's Rust. The same inputs, the same loop, the same checksum.
 //! `encode` makes a Vec, as the commit does; the port fills a lent array.
 
+mod processed;
+mod received;
+mod sent;
+mod table;
+
 use std::collections::VecDeque;
 use std::env;
 
@@ -188,6 +193,12 @@ fn figures(call: u64, count: u64) -> u64 {
 fn main() {
     let mut words = env::args().skip(1).map(|word| word.parse().expect("a number"));
     let (call, count): (u64, u64) = (words.next().unwrap_or(0), words.next().unwrap_or(0));
-    let sum = if call < 300 { reports(call, count) } else { figures(call, count) };
+    let sum = match call % 1000 / 100 {
+        3 => figures(call, count),
+        4 => sent::sum(call, count),
+        5 => received::sum(call, count),
+        6 => processed::sum(call, count),
+        _ => reports(call, count),
+    };
     println!("{sum}");
 }

@@ -1,8 +1,8 @@
--- `replay::shape::last` is safe and ends: the unit of the digits that are left falls.
+-- `replay::shape::over` is safe and ends: the unit of the digits that are left falls.
 -- Assumes nothing.
 use borrow.Author.Needs.{needs}
-use Rattle.replay.proofs.shape.last.Statement.{statement}
-use Rattle.replay.proofs.shape.last.Tie as tie
+use Rattle.replay.proofs.shape.over.Statement.{statement}
+use Rattle.replay.proofs.shape.over.Tie as tie
 
 abbrev Inv-loop : tie.InvT-loop
 Inv-loop given shape walk₀ unit₀ walk unit = Unit {0}
@@ -28,11 +28,8 @@ loop-again c = search needs
 returns : tie.Need-returns Inv-loop μ-loop
 returns c = search needs
 
-returns-2 : tie.Need-returns-2 Inv-loop μ-loop
-returns-2 c = search needs
-
-pub last-spec : {M : Type 1} → statement M
-last-spec =
+pub over-spec : {M : Type 1} → statement M
+over-spec =
     tie.close
     (tie.spec
     Inv-loop
@@ -42,5 +39,4 @@ last-spec =
     step-requires
     loop-less
     loop-again
-    returns
-    returns-2)
+    returns)

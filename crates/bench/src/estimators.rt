@@ -4,6 +4,7 @@ use crate::calls::Progress;
 use crate::calls::next;
 use crate::calls::picked;
 use crate::calls::u32_of;
+use crate::table::store_number;
 use algorithms::etx;
 use algorithms::ewma::DualEwma;
 use algorithms::jitter::JitterEstimator;
@@ -31,19 +32,13 @@ pub fn lent_delays(s: &mut [i64], n: usize) -> &mut [i64] {
     s
 }
 
-fn store_number(s: &mut [u64], i: usize, x: u64) {
+pub fn store_time(s: &mut [u32], i: usize, x: u32) {
     if i < s.len() {
         s[i] = x;
     }
 }
 
-fn store_time(s: &mut [u32], i: usize, x: u32) {
-    if i < s.len() {
-        s[i] = x;
-    }
-}
-
-fn store_delay(s: &mut [i64], i: usize, x: i64) {
+pub fn store_delay(s: &mut [i64], i: usize, x: i64) {
     if i < s.len() {
         s[i] = x;
     }
@@ -62,14 +57,14 @@ fn float(s: &[u64], x: u64, shift: u64) -> f64 {
     u32_of(number(s, x, shift)) as f64
 }
 
-fn bits64(z: i64) -> u64 {
+pub fn bits64(z: i64) -> u64 {
     if 0 <= z {
         return unsigned(z);
     }
     18446744073709551615 - unsigned(!z)
 }
 
-fn flag(b: bool) -> u64 {
+pub fn flag(b: bool) -> u64 {
     if b { 1 } else { 0 }
 }
 

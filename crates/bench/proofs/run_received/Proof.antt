@@ -1,0 +1,56 @@
+-- `bench::run_received` is safe and ends: the tables keep their length, and the turns that are left fall.
+-- Assumes nothing.
+use borrow.Author.Needs.{needs}
+use mathlib.Core.Path.{_≡_}
+use lib.ListN.{length}
+use Rattle.bench.proofs.run_received.Statement.{statement}
+use Rattle.bench.proofs.run_received.Tie as tie
+
+abbrev Inv-loop : tie.InvT-loop
+Inv-loop call count numbers₀ times₀ delays₀ turn₀ left₀ numbers times delays turn left = (length numbers ≡ length numbers₀) × (length times ≡ length times₀) × (length delays ≡ length delays₀)
+
+abbrev μ-loop : tie.MeasureT-loop
+μ-loop call count numbers₀ times₀ delays₀ turn₀ left₀ numbers times delays turn left = left
+
+loop-holds : tie.Need-loop-holds Inv-loop μ-loop
+loop-holds c = search needs
+
+turn-requires : tie.Need-turn-requires Inv-loop μ-loop
+turn-requires c κs = search needs
+
+sub-left : tie.Need-sub-left Inv-loop μ-loop
+sub-left c = search needs
+
+loop-less : tie.Need-loop-less Inv-loop μ-loop
+loop-less c = search needs
+
+loop-again : tie.Need-loop-again Inv-loop μ-loop
+loop-again c = search needs
+
+same-length : tie.Need-same-length Inv-loop μ-loop
+same-length c = search needs
+
+same-length-2 : tie.Need-same-length-2 Inv-loop μ-loop
+same-length-2 c = search needs
+
+same-length-3 : tie.Need-same-length-3 Inv-loop μ-loop
+same-length-3 c = search needs
+
+returns : tie.Need-returns Inv-loop μ-loop
+returns c = search needs
+
+pub run-received-spec : {M : Type 1} → statement M
+run-received-spec =
+    tie.close
+    (tie.spec
+    Inv-loop
+    μ-loop
+    loop-holds
+    turn-requires
+    sub-left
+    loop-less
+    loop-again
+    same-length
+    same-length-2
+    same-length-3
+    returns)

@@ -1,0 +1,68 @@
+// The calls on windows: 333, 334, 466, 504, 505 and 507.
+use crate::owd_calls;
+use crate::receiver_calls;
+use crate::reply::Reply;
+use crate::sample_calls;
+use crate::tables::after_bytes;
+use crate::tables::push;
+use crate::tables::u64_of;
+use crate::tables::wide;
+use crate::windows::delays_of;
+use crate::windows::lent_delays;
+use crate::windows::lent_times;
+use crate::windows::push_delays;
+use crate::windows::push_times;
+use crate::windows::times_of;
+
+// Where the times of a call's windows stand; the delays come behind them.
+fn windows_at(call: u64) -> usize {
+    match call {
+        333 => 6,
+        334 => 4,
+        466 => 9,
+        504 => 38,
+        505 => 37,
+        _ => 33,
+    }
+}
+
+pub fn answer(given: &[u64], answer: &mut [u64]) -> usize {
+    let at = windows_at(u64_of(given, 0));
+    let mut times = [0u32; 4100];
+    let n = times_of(given, at, &mut times);
+    let mut delays = [0i64; 4100];
+    let m = delays_of(given, after_bytes(given, at), &mut delays);
+    called(
+        given,
+        lent_times(&mut times, n),
+        lent_delays(&mut delays, m),
+        answer,
+    )
+}
+
+fn called(given: &[u64], times: &mut [u32], delays: &mut [i64], answer: &mut [u64]) -> usize {
+    let n = reply_of(given, times, delays).push(answer);
+    match u64_of(given, 0) {
+        334 | 507 => n,
+        _ => push_windows(answer, n, times, delays),
+    }
+}
+
+fn reply_of(given: &[u64], times: &mut [u32], delays: &mut [i64]) -> Reply {
+    match u64_of(given, 0) {
+        333 => owd_calls::pushed(given, times, delays),
+        334 => owd_calls::trend(given, times, delays),
+        466 => sample_calls::sampled(given, times, delays),
+        504 => receiver_calls::record_frame(given, times, delays),
+        505 => receiver_calls::record_recv(given, times, delays),
+        _ => receiver_calls::build_report(given, times, delays),
+    }
+}
+
+// The windows after, each with its length.
+fn push_windows(answer: &mut [u64], n: usize, times: &[u32], delays: &[i64]) -> usize {
+    let m = push(answer, n, wide(times.len()));
+    let k = push_times(answer, m, times);
+    let j = push(answer, k, wide(delays.len()));
+    push_delays(answer, j, delays)
+}
