@@ -1,9 +1,9 @@
 // The delay window: its trend, its ring and its refusals; and the spin bit's round trip.
 use crate::lines::holds;
 use crate::lines::number;
+use crate::lines::or;
 use algorithms::owd::OwdTrendDetector;
 use algorithms::spin::SpinBitState;
-use refusals::option::OptionU64;
 
 // Pairs (0 ms, 0 µs), (1000, 1000): trend 1000.
 pub fn trend() {
@@ -42,30 +42,19 @@ pub fn capacity() {
     );
 }
 
-fn rtt_or(rtt: OptionU64, none: u64) -> u64 {
-    match rtt {
-        OptionU64::Some(ms) => ms,
-        OptionU64::None => none,
-    }
-}
-
 // The initiator measures from edge to edge; a clock that falls gives 0.
 pub fn spin() {
     let first = SpinBitState::new(true).rx_observe(false, 1, 1000);
     let none = first.rtt_ms;
-    number(b"spin, first edge: no round trip", rtt_or(none, 77), 77);
+    number(b"spin, first edge: no round trip", or(none, 77), 77);
     let one = first.state;
     let second = one.rx_observe(true, 2, 1040);
     let rtt = second.rtt_ms;
-    number(b"spin, second edge 40 ms later", rtt_or(rtt, 77), 40);
+    number(b"spin, second edge 40 ms later", or(rtt, 77), 40);
     let two = second.state;
     let third = two.rx_observe(false, 3, 1000);
     let fell = third.rtt_ms;
-    number(
-        b"spin, third edge with a clock that fell",
-        rtt_or(fell, 77),
-        0,
-    );
+    number(b"spin, third edge with a clock that fell", or(fell, 77), 0);
     let refused = two.rx_observe(false, 3, 281474976710656);
     number(b"spin, clock 2^48", refused.refusal as u64, 2);
 }

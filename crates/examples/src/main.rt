@@ -5,7 +5,9 @@ mod delays;
 mod estimators;
 mod floats_shown;
 mod lines;
+mod processing;
 mod questions_shown;
+mod receiving;
 mod reports;
 mod sending;
 
@@ -43,4 +45,19 @@ fn main() {
     sending::failures();
     sending::report();
     sending::intervals();
+    lines::heading(b"receiving\n");
+    receiving::grace();
+    receiving::dwell();
+    receiving::counters();
+    receiving::late_frame();
+    receiving::wrapped_timestamp();
+    receiving::restart();
+    receiving::saturated();
+    receiving::refused_frames();
+    receiving::refused_reports();
+    lines::heading(b"metrics\n");
+    processing::round_trips();
+    processing::stale();
+    processing::delivery();
+    processing::refused();
 }
