@@ -19,7 +19,7 @@ use Rattle.floats.proofs.Products.{mul-commutes}
 use Rattle.floats.proofs.Clamping.{clamp-within, clamp-monotone}
 use Rattle.floats.specs.Operations.{zero-float, one-float, clamped}
 use Rattle.algorithms.specs.Etx.{hundred-float, etxOf}
-use Rattle.algorithms.proofs.RatioProducts.{Ratio, product-ratio, product-monotone}
+use Rattle.floats.proofs.Ratios.{Ratio, product-ratio, product-monotone}
 
 ends : T (le one-float hundred-float)
 unfolding le

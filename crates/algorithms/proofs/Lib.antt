@@ -1,10 +1,10 @@
+-- What each estimator keeps, and what its figures come to. Assumes nothing.
 pub mod JitterKeepsRule
 pub mod SrttKeepsRule
 pub mod SrttStepsEstimate
 pub mod EwmaKeepsRule
 pub mod EwmaStaysBetween
 pub mod SpinKeepsRule
-pub mod RatioProducts
 pub mod EtxOfRatios
 pub mod OwdRuleKept
 pub mod OwdStretches

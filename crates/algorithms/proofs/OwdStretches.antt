@@ -13,8 +13,9 @@ use lib.ListN.{length, take, drop, getD, length-take, length-drop, length-append
 use lib.Seq.{drop-cons, drop-append-le, take-append-le, take-append-add, take-all}
 use lib.Ieee.{Float, binary64, add}
 use Rattle.refusals.specs.Ranges.{delayOk}
-use Rattle.algorithms.specs.Owd.{Rule, Lent, Pair, pairs, live, window, part, stretch, samplesOk}
-use Rattle.algorithms.specs.OwdTrend.{time, delay, plus, Summed}
+use Rattle.algorithms.specs.Owd.{Rule, Lent, Pair, pairs, live, window, samplesOk}
+use Rattle.algorithms.specs.OwdTrend.{time, delay, plus}
+use Rattle.algorithms.specs.Passes.{part, stretch, Summed}
 use Rattle.algorithms.specs.declared.owd.OwdTrendDetector.{OwdTrendDetector}
 
 -- ---- a stretch, pair by pair

@@ -1,5 +1,5 @@
 -- What the calls do to the window as a list of pairs: a push appends its pair and drops the oldest of a full window, and writes one slot of each buffer;
--- a new or cleared window is empty. Assumes nothing.
+-- a cleared window is empty. Assumes nothing.
 use mathlib.Core.Path.{_≡_, refl, sym, ap, _∙_}
 use mathlib.Core.Logic.{_≢_, _⊎_, inl, inr}
 use Prim.Native.Nat.{ℕ, zero, suc, _+_, _-_, _≤_, _<_}
@@ -12,7 +12,7 @@ use lib.ListN.{length, drop, getD, set, length-append, length-drop, length-set, 
 use lib.Seq.{getD-take, getD-drop, getD-append-add, getD-append-seam, getD-set-same, getD-set-other, ext-getD}
 use borrow.Author.Tests.{ltb-true, ltb-false}
 use Rattle.refusals.specs.Questions.{firstNo}
-use Rattle.algorithms.specs.Owd.{keepsRule, Rule, Lent, pairs, live, window, newOf, clearAnswer, wrapped, free, grown, pushRefusal, pushAnswer, stored}
+use Rattle.algorithms.specs.Owd.{keepsRule, Rule, Lent, pairs, live, window, clearAnswer, wrapped, free, grown, pushRefusal, pushAnswer, stored}
 use Rattle.algorithms.specs.declared.owd.OwdTrendDetector.{OwdTrendDetector}
 use Rattle.algorithms.proofs.OwdRuleKept.{free-below, grown-rule}
 use Rattle.algorithms.proofs.OwdGates.{push-in-order}
@@ -129,26 +129,13 @@ pub push-window : (s : OwdTrendDetector) (ts : List ℕ) (ds : List ℤ) (at : �
 unfolding pushAnswer stored
 push-window s ts ds at us h = rw h (grown-window s ts ds at us (push-in-order s ts ds us h))
 
--- a new window is empty
-pub new-window : (n : ℕ) (ts : List ℕ) (ds : List ℤ) → window (newOf n) ts ds ≡ []
-unfolding window newOf
-new-window n ts ds = refl
-
--- and so is a cleared one
+-- a cleared window is empty
 pub clear-window : (s : OwdTrendDetector) (ts : List ℕ) (ds : List ℤ) → keepsRule s ≡ true → window (clearAnswer s .state) ts ds ≡ []
 unfolding window clearAnswer firstNo
 clear-window s ts ds h = rw h refl
 
 -- ---- the buffers: one slot is written, and no other
 module _ {A : Type 0} (refusal : ℕ) (s : OwdTrendDetector) (x : A) (xs : List A) where
-  pub stored-length : length (stored refusal s x xs) ≡ length xs
-  unfolding stored
-  stored-length = go (eqb refusal 0)
-    where
-      go : (b : Bool) → length (cond b (set xs (free s) x) xs) ≡ length xs
-      go true = length-set xs (free s) x
-      go false = refl
-
   pub stored-elsewhere : (i : ℕ) (d : A) → i ≢ free s → getD (stored refusal s x xs) i d ≡ getD xs i d
   unfolding stored
   stored-elsewhere i d n = go (eqb refusal 0)

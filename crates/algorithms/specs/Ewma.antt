@@ -32,6 +32,7 @@ abbrev pub moved : Bool → Float → Float → Float → DualEwma
 moved false short long x = record { short = x; long = x; initialized = true }
 moved true short long x = record { short = step binary64 one-quarter short x; long = step binary64 one-thirty-second long x; initialized = true }
 
+-- a sample, by whether one came before
 unfoldable pub stepped : DualEwma → Float → DualEwma
 stepped s x = moved (s .initialized) (s .short) (s .long) x
 

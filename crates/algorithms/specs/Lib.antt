@@ -1,3 +1,4 @@
+-- The definitions that the contracts of `algorithms` cite.
 pub mod Jitter
 pub mod Srtt
 pub mod Ewma
@@ -5,3 +6,4 @@ pub mod Spin
 pub mod Etx
 pub mod Owd
 pub mod OwdTrend
+pub mod Passes

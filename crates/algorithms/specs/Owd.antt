@@ -12,16 +12,19 @@ use Rattle.algorithms.specs.declared.owd.OwdTrendDetector.{OwdTrendDetec
 use Rattle.algorithms.specs.declared.owd.OwdUpdate.{OwdUpdate}
 
 -- ---- the rule: document 01, State rule
+-- "Capacity is 2 to 4096"
 abbrev pub capacityOk : OwdTrendDetector → Bool
 capacityOk s = leb 2 (s .capacity) && leb (s .capacity) 4096
 
+-- "live count at most capacity"
 abbrev pub countOk : OwdTrendDetector → Bool
 countOk s = leb (s .count) (s .capacity)
 
+-- "first slot below it"
 abbrev pub firstOk : OwdTrendDetector → Bool
 firstOk s = ltb (s .first) (s .capacity)
 
--- capacity 2 to 4096, live count at most capacity, first slot below it
+-- the three together
 unfoldable pub keepsRule : OwdTrendDetector → Bool
 keepsRule s = capacityOk s && countOk s && firstOk s
 
@@ -62,19 +65,13 @@ live s xs = take (s .count) (drop (s .first) (xs ++ xs))
 unfoldable pub window : OwdTrendDetector → List ℕ → List ℤ → List Pair
 window s times delays = pairs (live s times) (live s delays)
 
--- the slots from `from` up to `to`
-abbrev pub part : {A : Type 0} → ℕ → ℕ → List A → List A
-part from to xs = take (to - from) (drop from xs)
-
-unfoldable pub stretch : ℕ → ℕ → List ℕ → List ℤ → List Pair
-stretch from to times delays = pairs (part from to times) (part from to delays)
-
 -- question 5 of every pair
 abbrev pub samplesOk : List Pair → Bool
 samplesOk [] = true
 samplesOk (p ∷ ps) = delayOk (p .owd-us) && samplesOk ps
 
 -- ---- a new window, and a cleared one
+-- no live pair, and the first slot 0
 abbrev pub empty : ℕ → OwdTrendDetector
 empty capacity = record { capacity = capacity; count = 0; first = 0 }
 
@@ -87,6 +84,7 @@ abbrev pub chosen : Bool → OwdTrendDetector → OwdTrendDetector → OwdTrendD
 chosen true after given = after
 chosen false after given = given
 
+-- a call's refusal, and the state that it leaves
 abbrev pub update : ℕ → OwdTrendDetector → OwdTrendDetector → OwdUpdate
 update refusal after given = record { refusal = refusal; state = chosen (eqb refusal 0) after given }
 
@@ -113,6 +111,7 @@ grown s =
 unfoldable pub pushRefusal : OwdTrendDetector → List ℕ → List ℤ → ℤ → ℕ
 pushRefusal s times delays us = firstNo (question 1 (keepsRule s) ∷ question 4 (windowsOk s (length times) (length delays)) ∷ question 5 (delayOk us) ∷ [])
 
+-- the state after a push
 unfoldable pub pushAnswer : OwdTrendDetector → List ℕ → List ℤ → ℤ → OwdUpdate
 pushAnswer s times delays us = update (pushRefusal s times delays us) (grown s) s
 

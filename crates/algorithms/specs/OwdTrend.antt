@@ -1,22 +1,16 @@
 -- The delay trend, float for float: document 01, Jitter, delay trend and bursts; algorithms.rs, `trend_us_per_sec`. Definitions only.
 use Prim.Native.Nat.{ℕ}
-use mathlib.Core.Path.{_≡_}
-use mathlib.Core.Bool.{Bool, true, cond, _&&_}
+use mathlib.Core.Bool.{cond}
 use mathlib.Core.List.{List, [], _∷_}
 use lib.Dec.{ltb, eqb}
 use lib.IntN.{ℤ, pos}
 use lib.ListN.{length}
 use lib.Ieee.{Float, binary64, add, sub, mul, div, lt, ofInt, toSigned}
-use Rattle.floats.specs.Operations.{zero-float, weight}
+use Rattle.floats.specs.Operations.{zero-float, thousand-float, weight}
 use Rattle.refusals.specs.Questions.{question, firstNo}
-use Rattle.refusals.specs.Ranges.{float}
 use Rattle.refusals.specs.declared.answer.AnswerI32.{AnswerI32}
 use Rattle.algorithms.specs.Owd.{Pair, keepsRule, windowsOk, window, samplesOk}
 use Rattle.algorithms.specs.declared.owd.OwdTrendDetector.{OwdTrendDetector}
-
--- 1000.0, by which µs per ms become µs per second
-abbrev pub thousand-float : Float
-thousand-float = float 125 3
 
 -- 2^−52, f64's epsilon
 abbrev pub epsilon : Float
@@ -34,15 +28,11 @@ unfoldable pub plus : (Pair → Float) → Float → List Pair → Float
 plus f start [] = start
 plus f start (p ∷ ps) = plus f (add binary64 start (f p)) ps
 
--- what a pass over pairs gathers: whether each delay is in range, and if so the sums of the times and of the delays
-pub record Summed (x y : Float) (ok : Bool) (ps : List Pair) (x' y' : Float) (ok' : Bool) : Type 0 where
-  pub asked : ok' ≡ (ok && samplesOk ps)
-  pub times : samplesOk ps ≡ true → x' ≡ plus time x ps
-  pub delays : samplesOk ps ≡ true → y' ≡ plus delay y ps
-
+-- the sum from 0.0 on
 abbrev pub total : (Pair → Float) → List Pair → Float
 total f = plus f zero-float
 
+-- a sum over pairs, divided by how many there are
 abbrev pub mean : Float → List Pair → Float
 mean sum ps = div binary64 sum (ofInt binary64 (pos (length ps)))
 
@@ -50,7 +40,8 @@ mean sum ps = div binary64 sum (ofInt binary64 (pos (length ps)))
 abbrev pub product : (Pair → Float) → Float → (Pair → Float) → Float → Pair → Float
 product f a g b p = mul binary64 (sub binary64 (f p) a) (sub binary64 (g p) b)
 
--- num / den in µs per second, cut toward zero and saturated at the ends of i32; 0 where den is below 2^−52
+-- num / den in µs per second, cut toward zero and saturated at the ends of i32; 0 where den is below 2^−52. That algorithms.rs clamps to i32's range
+-- before the cast changes nothing: floats' `cast-clamped`
 unfoldable pub slope : Float → Float → ℤ
 slope num den = cond (lt den epsilon) (pos 0) (toSigned 31 (mul binary64 (div binary64 num den) thousand-float))
 

@@ -6,8 +6,9 @@ ghost use Prim.Native.Nat.{_≤_};
 ghost use lib.ListN.{length};
 ghost use lib.Ieee.{binary64, ofInt};
 ghost use Rattle.refusals.specs.Ranges.{delayOk};
-ghost use Rattle.algorithms.specs.Owd.{stretch, samplesOk};
-ghost use Rattle.algorithms.specs.OwdTrend.{time, delay, product, plus, Summed};
+ghost use Rattle.algorithms.specs.Owd.{samplesOk};
+ghost use Rattle.algorithms.specs.OwdTrend.{time, delay, product, plus};
+ghost use Rattle.algorithms.specs.Passes.{stretch, Summed};
 
 // The sums of the times and of the delays, and whether each delay is in range: from one that is not on, the sums are unfinished.
 pub(crate) struct Sums {

@@ -1,3 +1,4 @@
+-- The definitions that the contracts of `codec` cite.
 pub mod LittleEndian
 pub mod Reading
 pub mod Writing

@@ -1,5 +1,5 @@
 -- Little-endian fields (document 01, "Report bytes"): the number that n bytes from a position on make up, and a list with the bytes of a number in the
--- place of its own.
+-- place of its own. Definitions only.
 use Prim.Native.Nat.{ℕ, zero, suc, _+_, _-_, _*_, _/_, _%_}
 use mathlib.Core.Bool.{cond}
 use mathlib.Core.List.{List, [], _∷_, _++_}

@@ -1,4 +1,4 @@
--- What `Reader`'s methods answer (codec.rs; document 01, check 7), over the bytes of the payload and the place.
+-- What `Reader`'s methods answer (codec.rs; document 01, check 7), over the bytes of the payload and the place. Definitions only.
 use Prim.Native.Nat.{ℕ, _+_, _-_, min}
 use mathlib.Core.Bool.{Bool, cond}
 use mathlib.Core.List.{List}
@@ -39,6 +39,7 @@ refusalOf (TooShort needed given) = 7
 unfoldable pub placeAfter : List ℕ → Place → ℕ → Place
 placeAfter s at n = record { pos = cond (within s (at .pos) n) (at .pos + n) (at .pos) }
 
+-- the length answer, and the place after
 unfoldable pub advanced : List ℕ → Place → ℕ → Advanced
 advanced s at n = record { length = lengthAnswer s (at .pos) n; place = placeAfter s at n }
 
@@ -68,6 +69,7 @@ readBytes s at n = record {
 unfoldable pub arrayAt : List ℕ → ℕ → ℕ → List ℕ
 arrayAt s pos n = cond (leb n (length s - pos)) (take n (drop pos s)) (replicate n 0)
 
+-- the bytes of each width that the reports use
 unfoldable pub readArray2 : List ℕ → Place → ReadArray2
 readArray2 s at = record { length = lengthAnswer s (at .pos) 2; bytes = arrayAt s (at .pos) 2; place = placeAfter s at 2 }
 

@@ -22,12 +22,12 @@ pub fn jitter() {
 
 // RTT 3000, 11000, 3000: SRTT 3000, 4000, 3875; RTTVAR 1500, 3125, 2594.
 pub fn round_trip() {
-    let v2 = rttvar_step(1500, 3000, 11000);
-    let s2 = srtt_step(3000, 11000);
-    number(b"RTT 3000, 11000: SRTT", s2, 4000);
-    number(b"RTT 3000, 11000: RTTVAR", v2, 3125);
-    number(b"then 3000: SRTT", srtt_step(s2, 3000), 3875);
-    number(b"then 3000: RTTVAR", rttvar_step(v2, s2, 3000), 2594);
+    let rttvar = rttvar_step(1500, 3000, 11000);
+    let srtt = srtt_step(3000, 11000);
+    number(b"RTT 3000, 11000: SRTT", srtt, 4000);
+    number(b"RTT 3000, 11000: RTTVAR", rttvar, 3125);
+    number(b"then 3000: SRTT", srtt_step(srtt, 3000), 3875);
+    number(b"then 3000: RTTVAR", rttvar_step(rttvar, srtt, 3000), 2594);
 }
 
 // "Never below" needs round trips that are multiples of 8 µs: after 0 and 1 the exact average is 8/64, and SRTT is 0.

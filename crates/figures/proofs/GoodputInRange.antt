@@ -13,7 +13,7 @@ use lib.Ieee.Fits.{add-fits, div-fits}
 use lib.Ieee.Digits.{back}
 use lib.Ieee.Exact.{HasValue}
 use lib.Ieee.Scale.{grid, overflow, round-val}
-use Rattle.floats.specs.Operations.{zero-float, one-quarter, step}
+use Rattle.floats.specs.Operations.{zero-float, one-quarter, step, thousand-float}
 use Rattle.floats.proofs.Grid.{grid-le, grid-ge, held-power, held-two-to}
 use Rattle.floats.proofs.Products.{mul-commutes}
 use Rattle.floats.proofs.Quotients.{div-is, integer-under, integer-value}
@@ -21,7 +21,6 @@ use Rattle.floats.proofs.Ranges.{Within}
 use Rattle.floats.proofs.Smoothing.{ewma-within}
 use Rattle.refusals.specs.declared.option.OptionU64.{OptionU64}
 use Rattle.refusals.specs.declared.option.OptionU64.the-variants.{None, Some}
-use Rattle.figures.specs.RoundTrips.{thousand-float}
 use Rattle.figures.specs.Goodput.{maxGoodput, secondsOf, rateOf, towardRate, goodputOver, goodputAfter}
 use Rattle.figures.proofs.IntegersInRange.{units-within, integer-units}
 

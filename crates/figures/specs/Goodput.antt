@@ -3,16 +3,16 @@ use mathlib.Core.Bool.{Bool, cond}
 use Prim.Native.Nat.{ℕ, _-_}
 use lib.IntN.{pos}
 use lib.Ieee.{Float, Format, binary64, add, sub, mul, div, lt, eq, ofInt}
-use Rattle.floats.specs.Operations.{zero-float, one-quarter, inRange}
+use Rattle.floats.specs.Operations.{zero-float, one-quarter, inRange, thousand-float}
 use Rattle.refusals.specs.Ranges.{float}
 use Rattle.refusals.specs.declared.option.OptionU64.{OptionU64}
 use Rattle.refusals.specs.declared.option.OptionU64.the-variants.{None, Some}
-use Rattle.figures.specs.RoundTrips.{thousand-float}
 
 -- document 01, State rule: goodput is at most 2^74
 abbrev pub maxGoodput : Float
 maxGoodput = float 1 74
 
+-- document 01, State rule: "goodput 0 to 2^74"
 abbrev pub goodputOk : Float → Bool
 goodputOk = inRange zero-float maxGoodput
 

@@ -4,7 +4,7 @@ use Prim.Native.Nat.{ℕ, _+_, _-_, _*_}
 use lib.Dec.{leb, ltb, eqb}
 use lib.IntN.{ℤ}
 use lib.Ieee.{Float, binary64, div, ofInt}
-use Rattle.refusals.specs.Ranges.{float}
+use Rattle.floats.specs.Operations.{thousand-float}
 use Rattle.wire.specs.declared.receiver_report.ReceiverReport.{ReceiverReport}
 use Rattle.figures.specs.declared.RoundTrip.{RoundTrip}
 use Rattle.figures.specs.declared.RoundTrip.the-variants.{NoEcho, Sample, Zero, ArithFail}
@@ -24,10 +24,6 @@ roundTrip rr ours =
 -- a sample of whole ms, in µs
 abbrev pub sampleUs : ℕ → ℕ
 sampleUs ms = 1000 * ms
-
--- 1000.0
-abbrev pub thousand-float : Float
-thousand-float = float 125 3
 
 -- µs as ms, each operation rounded once: metrics.rs, `srtt_ms`
 unfoldable pub millisecondsOf : ℤ → Float

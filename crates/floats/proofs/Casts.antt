@@ -1,16 +1,19 @@
--- A float as a signed integer of h bits and a sign: cut toward zero, an end of the range where it is beyond it, and 0 for a NaN. Clamping it to the range first
--- changes nothing. Assumes nothing.
+-- A float as an integer: cut toward zero, an end of the range where it is beyond it, and 0 for a NaN. Clamping it to the range of a signed one first changes nothing.
+-- Assumes nothing.
 use mathlib.Core.Path.{_≡_, refl, sym, ap, _∙_, subst}
+use mathlib.Core.Logic.{inl, inr}
 use Prim.Native.Nat.{ℕ, _-_, _*_, _/_, _^_, _≤_, _<_, min}
 use native.Mathlib.Nat.{le-trans, le-of-eq, mul-one, one-mul, zero-div, zero-min, le-div-iff-mul-le, div-lt-iff-lt-mul}
 use native.Mathlib.Omega.{arith}
-use mathlib.Core.Bool.{Bool, true, false, cond}
+use mathlib.Core.Bool.{Bool, true, false, cond, true≢false}
 use lib.IntN.{ℤ, pos, negℤ}
 use lib.Dec.{T, ltb→lt}
 use lib.Pow.{pow-pos, pow-mono}
-use lib.Ieee.{Float, nan, inf, fin, up, down, lt, le, toSigned, isNan}
+use lib.Ieee.{Float, nan, inf, fin, up, down, lt, le, toSigned, toUnsigned, isNan}
 use lib.Ieee.Fits.{down-pos}
+use lib.Ieee.Nearest.{div-same}
 use Rattle.floats.proofs.Fractions.{le→ordered}
+use Rattle.floats.proofs.At.{At}
 use Rattle.floats.proofs.Order.{le-reflexive, lt→le}
 use Rattle.floats.specs.Operations.{clamped}
 
@@ -37,7 +40,7 @@ reaches k Y q Q h = le-div-iff-mul-le Q .1 (le-trans h (le-of-eq (mul-one Y)))
 stays : (k Y q : ℕ) → 0 < q → Y * 1 < k * q → Y / q < k
 stays k Y q Q h = div-lt-iff-lt-mul Q .1 (subst (λ (z : ℕ). z < k * q) (mul-one Y) h)
 
--- ---- the cast
+-- ---- to a signed integer of h bits and a sign
 pub cast-nan : (h : ℕ) (x : Float) → T (isNan x) → toSigned h x ≡ pos 0
 unfolding toSigned isNan
 cast-nan h nan t = refl
@@ -101,3 +104,15 @@ cast-clamped h x = go (lt x (least h)) (lt (greatest h) x) (λ (t : T (lt x (lea
     go true b l r = cast-low h (least h) (le-reflexive (least h) (unfold isNan in tt)) ∙ sym (l tt)
     go false true l r = cast-high h (greatest h) (le-reflexive (greatest h) (unfold isNan in tt)) ∙ sym (r tt)
     go false false l r = refl
+
+-- ---- to an unsigned integer of w bits: a value that is not negative is cut, and at most the greatest
+pub cast-unsigned : (w a c : ℕ) (x : Float) → 0 < c → At x false a c → toUnsigned w x ≡ min (a / c) (2 ^ w - 1)
+unfolding toUnsigned
+cast-unsigned w a c nan C h = absurd h
+cast-unsigned w a c (inf s) C h = absurd h
+cast-unsigned w a c (fin false m e) C h = ap (λ (z : ℕ). min z (2 ^ w - 1)) (div-same (m * up e) (down e) a c (down-pos e) C (h .1))
+cast-unsigned w a c (fin true m e) C (inl p, h) = absurd (true≢false p)
+cast-unsigned w a c (fin true m e) C (inr z, h) = none (a / c) (2 ^ w - 1) (ap (λ (n : ℕ). n / c) z ∙ zero-div c)
+  where
+    none : (a b : ℕ) → a ≡ 0 → 0 ≡ min a b
+    none a b e = omega arith

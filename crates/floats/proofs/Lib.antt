@@ -5,12 +5,16 @@ pub mod Order
 pub mod Ranges
 pub mod At
 pub mod Grid
+pub mod Dyadics
 pub mod Units
 pub mod Rounding
 pub mod Sums
+pub mod SumsGrow
 pub mod Products
 pub mod Smoothing
 pub mod Clamping
 pub mod Complements
+pub mod Ratios
 pub mod Quotients
 pub mod Casts
+pub mod PowersOfTwo

@@ -110,10 +110,6 @@ pub lt-le-transitive : (x y z : Float) → T (lt x y) → T (le y z) → T (lt x
 lt-le-transitive x y z h k =
     not-le→lt z x (compared y z k .1) (compared x y (lt→le x y h) .0) (not-T (le z x) (λ (t : T (le z x)). lt-excludes-le x y h (le-transitive y z x k t)))
 
-pub le-lt-transitive : (x y z : Float) → T (le x y) → T (lt y z) → T (lt x z)
-le-lt-transitive x y z h k =
-    not-le→lt z x (compared y z (lt→le y z k) .1) (compared x y h .0) (not-T (le z x) (λ (t : T (le z x)). lt-excludes-le y z k (le-transitive z x y t h)))
-
 -- ---- a change of sign turns the order round
 pub le-neg : (x y : Float) → T (le x y) → T (le (neg y) (neg x))
 unfolding le neg

@@ -1,4 +1,4 @@
--- An integer as a float, and the quotient of two of them, each rounded once: with a divisor above 0 it is no NaN, not negative, and no smaller for a larger dividend.
+-- An integer as a float, and the quotient of two of them, each rounded once: with a divisor above 0 it is no NaN and not negative.
 -- Assumes nothing.
 use mathlib.Core.Path.{_≡_, sym, ap, _∙_, subst}
 use Prim.Native.Nat.{ℕ, zero, suc, _+_, _*_, _^_, _≤_, _<_}
@@ -10,10 +10,9 @@ use lib.Pow.{pow-add, pow-pos}
 use lib.Ieee.{Float, nan, inf, fin, Format, binary64, emax, low, up, down, round, div, le, ofInt, isNan}
 use lib.Ieee.Fits.{up-pos, down-pos}
 use lib.Ieee.Exact.{HasValue}
-use lib.Ieee.Order.{round-mono}
 use lib.Ieee.Positive.{positive, positive-of-value}
 use lib.Ieee.Scale.{grid, overflow, round-val, round-same}
-use Rattle.floats.proofs.Grid.{grid-mono, grid-le, grid-ge, held-one, held-two-to}
+use Rattle.floats.proofs.Grid.{grid-le, grid-ge, held-one, held-two-to}
 use Rattle.floats.proofs.Rounding.{round-number, round-not-negative}
 use Rattle.floats.specs.Operations.{zero-float, rounded-quotient}
 
@@ -78,11 +77,3 @@ module _ (f : Format) (m : ℕ) (above : 0 < m) (small : m ≤ 2 ^ emax f) where
 
   pub quotient-not-negative : (n : ℕ) → n ≤ 2 ^ emax f → T (le zero-float (rounded-quotient f n m))
   quotient-not-negative n h = subst (λ (z : Float). T (le zero-float z)) (sym (quotient-is n h)) (round-not-negative f (grid f n 1 * 2 ^ low f) (grid f m 1 * 2 ^ low f) divisor-positive)
-
-  pub quotient-monotone : (n n' : ℕ) → n ≤ n' → n' ≤ 2 ^ emax f → T (le (rounded-quotient f n m) (rounded-quotient f n' m))
-  quotient-monotone n n' h k =
-      let U = 2 ^ low f in
-      subst (λ (z : Float). T (le z (rounded-quotient f n' m))) (sym (quotient-is n (le-trans h k)))
-      (subst (λ (z : Float). T (le (round f false (grid f n 1 * U) (grid f m 1 * U)) z)) (sym (quotient-is n' k))
-      (round-mono f (grid f n 1 * U) (grid f m 1 * U) (grid f n' 1 * U) (grid f m 1 * U) divisor-positive divisor-positive
-      (mul-le-mul-right (grid f m 1 * U) (mul-le-mul-right U (grid-mono f n 1 n' 1 (zero-lt-suc 0) (zero-lt-suc 0) (integer-under f n' k) (mul-le-mul-right 1 h))))))

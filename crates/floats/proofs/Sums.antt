@@ -88,7 +88,7 @@ second-over Y p q b c h = first-over Y q p b c h ∙ ap (λ (k : ℕ). b * k) (m
 sub-mul : (a b c : ℕ) → (a - b) * c ≡ a * c - b * c
 sub-mul a b c = mul-comm (a - b) c ∙ mul-sub c a b ∙ ap (λ (k : ℕ). k - c * b) (mul-comm c a) ∙ ap (λ (k : ℕ). a * c - k) (mul-comm c b)
 
-add-like : (f : Format) (x y : Float) (s : Bool) (a b c : ℕ) → 0 < c → At x s a c → At y s b c → Rounds f (add f x y) s (a + b) c
+pub add-like : (f : Format) (x y : Float) (s : Bool) (a b c : ℕ) → 0 < c → At x s a c → At y s b c → Rounds f (add f x y) s (a + b) c
 unfolding add
 add-like f nan y s a b c C v w = absurd v
 add-like f (inf t) y s a b c C v w = absurd v

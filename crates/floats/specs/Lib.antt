@@ -1,1 +1,2 @@
+-- The definitions that the contracts of `floats` cite.
 pub mod Operations

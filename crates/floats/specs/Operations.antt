@@ -11,6 +11,10 @@ zero-float = fin false 0 (pos 0)
 abbrev pub one-float : Float
 one-float = fin false 1 (pos 0)
 
+-- 1000.0, by which µs become ms and ms seconds.
+abbrev pub thousand-float : Float
+thousand-float = fin false 125 (pos 3)
+
 -- 2 ^ -(k + 1), exactly.
 abbrev pub weight : ℕ → Float
 weight k = fin false 1 (negsuc k)
@@ -29,6 +33,10 @@ inRange lo hi x = le lo x && le x hi
 -- x, or the end of lo to hi that it lies beyond: document 01, Rust forms, `clamp`.
 unfoldable pub clamped : Float → Float → Float → Float
 clamped lo hi x = cond (lt x lo) lo (cond (lt hi x) hi x)
+
+-- the lesser of x and y where both are numbers, and y where one is a NaN
+unfoldable pub lesser : Float → Float → Float
+lesser x y = cond (lt x y) x y
 
 -- s moved toward x by the part a of their difference, each operation rounded once: document 01, Round trip, ratios and trends.
 unfoldable pub step : Format → Float → Float → Float → Float

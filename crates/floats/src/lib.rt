@@ -3,7 +3,7 @@ ghost use mathlib.Core.Path.{_≡_};
 ghost use lib.IntN.{pos};
 ghost use lib.Ieee as Ieee;
 ghost use lib.Ieee.{binary64};
-ghost use Rattle.floats.specs.Operations.{inRange, clamped, step, one-quarter, one-thirty-second, complement, rounded-quotient};
+ghost use Rattle.floats.specs.Operations.{inRange, clamped, step, one-quarter, one-thirty-second, complement, rounded-quotient, lesser};
 
 // --- Ranges ---
 
@@ -25,6 +25,13 @@ pub fn clamp(x: f64, lo: f64, hi: f64) -> f64
         return hi;
     }
     x
+}
+
+// The lesser of two numbers; b where one is a NaN.
+pub fn least(a: f64, b: f64) -> f64
+    ensures { λ r. ⌜ r ≡ lesser a b ⌝ }
+{
+    if a < b { a } else { b }
 }
 
 // --- Steps ---

@@ -1,2 +1,3 @@
+-- The rule is kept, and the mean burst is the Rust's. Assumes nothing.
 pub mod RuleKept
 pub mod MeanBurst

@@ -123,5 +123,6 @@ abbrev pub observedAfter : OptionU64 → GapTracker → ℕ → Observed
 observedAfter None t counter = record { lost = 0; tracker = expecting t (min (counter + 1) maxCounter) }
 observedAfter (Some expected) t counter = record { lost = counter - expected; tracker = expecting (moved t (counter - expected)) (nextAfter expected counter) }
 
+-- a frame of this counter
 unfoldable pub observed : GapTracker → ℕ → Observed
 observed t counter = observedAfter (t .«expected_next») t counter

@@ -1,2 +1,3 @@
+-- The definitions that the contracts of `gaps` cite.
 pub mod Gaps
 pub mod Stats

@@ -1,2 +1,9 @@
+-- The walks of functions over a held payload, and what decoding from a position comes to. Assumes nothing.
+mod Beside
+mod WrittenOut
 mod Held
+mod LentRead
+mod PassedOn
+mod NewThenPassedOn
+mod Questions
 pub mod DecodedFromPosition

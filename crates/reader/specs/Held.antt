@@ -9,6 +9,7 @@ use Rattle.reader.specs.declared.Reader.{Reader}
 abbrev pub newOf : RefT (List ℕ) → Reader
 newOf payload = record { buf = payload; pos = 0 }
 
+-- its position, as the functions on a slice and a place take it
 abbrev pub placeOf : Reader → Place
 placeOf r = record { pos = r .pos }
 

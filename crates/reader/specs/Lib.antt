@@ -1,2 +1,3 @@
+-- The definitions that the contracts of `reader` cite.
 pub mod Held
 pub mod Reports

@@ -18,12 +18,15 @@ unfoldable pub senderBy : SenderReport → Length → SenderDecoded.Decoded
 senderBy r Enough = Sender.accepted r
 senderBy r (TooShort needed given) = record { refusal = 7; needed = needed; given = given; report = Sender.noReport }
 
+-- a sender report from a position on
 unfoldable pub senderAt : List ℕ → ℕ → SenderDecoded.Decoded
 senderAt s pos = senderBy (Sender.reportIn (drop pos s)) (lengthAnswer s pos 47)
 
+-- the same of a receiver report
 unfoldable pub receiverBy : ReceiverReport → Length → ReceiverDecoded.Decoded
 receiverBy r Enough = Receiver.accepted r
 receiverBy r (TooShort needed given) = record { refusal = 7; needed = needed; given = given; report = Receiver.noReport }
 
+-- a receiver report from a position on
 unfoldable pub receiverAt : List ℕ → ℕ → ReceiverDecoded.Decoded
 receiverAt s pos = receiverBy (Receiver.reportIn (drop pos s)) (lengthAnswer s pos 67)

@@ -1,4 +1,4 @@
-// `Reader`, holding the payload that it was given: thin functions over those on a slice and a place, each proved by a walk of its MIR, by hand.
+// `Reader`, holding the payload that it was given: thin functions over those on a slice and a place. Their MIR is walked by hand, once for each form.
 pub mod reports; // reports.rt: the decoding of each report
 
 ghost use mathlib.Core.Path.{_≡_};

@@ -1,3 +1,4 @@
+-- What the number of the first no says, and how an answer is picked by it. Assumes nothing.
 pub mod PickedByTest
 pub mod FirstNoFound
 pub mod Clauses

@@ -5,7 +5,7 @@ use mathlib.Core.Bool.{Bool, true, false, cond}
 use Prim.Native.Nat.{ℕ, suc, _+_, _-_, _*_, _^_, _≤_, _<_}
 use native.Mathlib.Omega.{arith}
 use lib.Dec.{leb, ltb}
-use lib.IntN.{ℤ, pos, negsuc, subℕ, _-ℤ_, _*ℤ_}
+use lib.IntN.{pos, negsuc, subℕ, _-ℤ_, _*ℤ_}
 use borrow.Author.Tests.{leb-false, ltb-true, ltb-false, le-leb}
 use mir.Syntax.{w32}
 use mir.Val.{toZ}

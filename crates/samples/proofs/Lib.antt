@@ -1,3 +1,4 @@
+-- Delays and differences in 32 bits, and the rule of the OWD reference kept. Assumes nothing.
 pub mod Differences
 pub mod Reduction
 pub mod WrappedTimestamp

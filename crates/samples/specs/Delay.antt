@@ -26,6 +26,7 @@ abbrev pub restarts : OwdReference → ℕ → Bool
 restarts None now = false
 restarts (Some recv timestamp) now = leb span (now - recv)
 
+-- a receive time and a sender timestamp to measure from
 abbrev pub base : ℕ → ℕ → OwdBase
 base recv timestamp = record { «recv_ms» = recv; «sender_timestamp» = timestamp }
 

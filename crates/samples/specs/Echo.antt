@@ -6,6 +6,7 @@ use Rattle.refusals.specs.declared.option.OptionU64.{OptionU64}
 use Rattle.refusals.specs.declared.option.OptionU64.the-variants.{None, Some}
 use Rattle.samples.specs.declared.Echo.{Echo}
 
+-- a timestamp echoed, and how long it dwelt here
 abbrev pub echo : ℕ → ℕ → Echo
 echo timestamp dwell = record { «timestamp_echo» = timestamp; «dwell_time» = dwell }
 

@@ -6,7 +6,7 @@ use lib.Dec.{eqb}
 use lib.Ieee.{Float}
 use Rattle.refusals.specs.Answers.{answerF64}
 use Rattle.refusals.specs.Questions.{question, firstNo}
-use Rattle.refusals.specs.Ranges.{counterOk, float}
+use Rattle.refusals.specs.Ranges.{float, counterOk}
 use Rattle.refusals.specs.declared.answer.AnswerF64.{AnswerF64}
 use Rattle.sender.specs.State.{keepsRule, refusalOf}
 use Rattle.sender.specs.declared.SenderState.{SenderState}
@@ -52,6 +52,7 @@ failureRefusal s = firstNo (question 1 (keepsRule s) ∷ question 10 (counterOk 
 abbrev pub failure : ℕ → SenderState → ℕ → SendFailure
 failure n s count = record { refusal = n; count = cond (eqb n 0) count 0; state = cond (eqb n 0) (withFailures s count) s }
 
+-- the same behind the questions
 unfoldable pub failureOf : SenderState → SendFailure
 failureOf s = failure (failureRefusal s) s (s .«consecutive_send_failures» + 1)
 
@@ -59,5 +60,6 @@ failureOf s = failure (failureRefusal s) s (s .«consecutive_send_failures» + 1
 abbrev pub success : ℕ → SenderState → SendSuccess
 success n s = record { refusal = n; previous = cond (eqb n 0) (s .«consecutive_send_failures») 0; state = cond (eqb n 0) (withFailures s 0) s }
 
+-- the same behind question 1
 unfoldable pub successOf : SenderState → SendSuccess
 successOf s = success (refusalOf s) s

@@ -1,3 +1,4 @@
+-- The definitions that the contracts of `sender` cite.
 pub mod State
 pub mod Sent
 pub mod Backoff

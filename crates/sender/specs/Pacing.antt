@@ -42,6 +42,7 @@ fromSrttRefusal s srtt = firstNo (question 1 (keepsRule s) ∷ question 8 (smoot
 unfoldable pub countedPace : SenderState → ℤ → SenderState
 countedPace s srtt = paced s srtt (floorAt (updateCounted (s .«srtt_sample_count»))) top (updateCounted (s .«srtt_sample_count»))
 
+-- the same behind the questions
 unfoldable pub fromSrttOf : SenderState → ℤ → SenderUpdate
 fromSrttOf s srtt = updated (fromSrttRefusal s srtt) s (countedPace s srtt)
 

@@ -1,4 +1,4 @@
--- PathMtuNotification, 2 bytes (mmp/wire.rs; document 01's checks 6 and 7 at its length).
+-- PathMtuNotification, 2 bytes (mmp/wire.rs; document 01's checks 6 and 7 at its length). Definitions only.
 use Prim.Native.Nat.{ℕ}
 use mathlib.Core.Bool.{cond}
 use mathlib.Core.List.{List}
@@ -9,15 +9,19 @@ use Rattle.wire.specs.Payload.{roomAnswer, writtenInto}
 use Rattle.wire.specs.declared.path_mtu.PathMtuNotification.{PathMtuNotification}
 use Rattle.wire.specs.declared.path_mtu.Decoded.{Decoded}
 
+-- the notification of an MTU
 abbrev pub notification : ℕ → PathMtuNotification
 notification mtu = record { «path_mtu» = mtu }
 
+-- the bytes: the MTU alone, little-endian
 unfoldable pub encoded : PathMtuNotification → List ℕ
 encoded n = leBytes 2 (n .«path_mtu»)
 
+-- document 01, check 6: 2 bytes of room
 abbrev pub encodeAnswer : List ℕ → ℕ
 encodeAnswer out = roomAnswer 2 out
 
+-- the buffer after it is encoded there
 abbrev pub encodedInto : List ℕ → PathMtuNotification → List ℕ
 encodedInto out n = writtenInto out (encoded n)
 

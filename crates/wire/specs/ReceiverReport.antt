@@ -1,5 +1,5 @@
 -- ReceiverReport, 68 bytes (document 01, "Report bytes"): highest 8, packets 8, bytes 8, echo 4, dwell 2, max burst 2, mean burst 2, reserved 2, jitter 4,
--- ECN 4, trend 4 signed, bursts 4, reorders 4, interval packets 4, interval bytes 4.
+-- ECN 4, trend 4 signed, bursts 4, reorders 4, interval packets 4, interval bytes 4. Definitions only.
 use Prim.Native.Nat.{ℕ, _^_, _<_}
 use mathlib.Core.Bool.{cond}
 use mathlib.Core.List.{List, [], _∷_, _++_}
@@ -8,7 +8,7 @@ use lib.Dec.{leb}
 use lib.IntN.{pos}
 use mir.Syntax.{w32}
 use mir.Val.{SFits, toZ, ofZ}
-use Rattle.codec.specs.LittleEndian.{leBytes, fieldAt, withField}
+use Rattle.codec.specs.LittleEndian.{leBytes, fieldAt}
 use Rattle.wire.specs.Payload.{roomAnswer, writtenInto}
 use Rattle.wire.specs.declared.receiver_report.ReceiverReport.{ReceiverReport}
 use Rattle.wire.specs.declared.receiver_report.Decoded.{Decoded}
@@ -33,9 +33,11 @@ encoded r =
     ++ leBytes 4 (r .«interval_packets_recv»)
     ++ leBytes 4 (r .«interval_bytes_recv»)
 
+-- document 01, check 6: 68 bytes of room
 abbrev pub encodeAnswer : List ℕ → ℕ
 encodeAnswer out = roomAnswer 68 out
 
+-- the buffer after it is encoded there
 abbrev pub encodedInto : List ℕ → ReceiverReport → List ℕ
 encodedInto out r = writtenInto out (encoded r)
 
@@ -105,19 +107,3 @@ pub record Fits (r : ReceiverReport) : Type 0 where
   pub «cumulative_reorder_count» : r .«cumulative_reorder_count» < 2 ^ 32
   pub «interval_packets_recv» : r .«interval_packets_recv» < 2 ^ 32
   pub «interval_bytes_recv» : r .«interval_bytes_recv» < 2 ^ 32
-
--- ---- the parts in which the code makes the bytes up
-abbrev pub withCounts : ReceiverReport → List ℕ → List ℕ
-withCounts r b =
-    withField (withField (withField (withField b 0 1 2) 4 8 (r .«highest_counter»)) 12 8 (r .«cumulative_packets_recv»)) 20 8 (r .«cumulative_bytes_recv»)
-
-abbrev pub withBursts : ReceiverReport → List ℕ → List ℕ
-withBursts r b =
-    withField (withField (withField (withField b 28 4 (r .«timestamp_echo»)) 32 2 (r .«dwell_time»)) 34 2 (r .«max_burst_loss»)) 36 2 (r .«mean_burst_loss»)
-
-abbrev pub withDelay : ReceiverReport → List ℕ → List ℕ
-withDelay r b =
-    withField (withField (withField (withField b 40 4 (r .jitter)) 44 4 (r .«ecn_ce_count»)) 48 4 (ofZ w32 (r .«owd_trend»))) 52 4 (r .«burst_loss_count»)
-
-abbrev pub withInterval : ReceiverReport → List ℕ → List ℕ
-withInterval r b = withField (withField (withField b 56 4 (r .«cumulative_reorder_count»)) 60 4 (r .«interval_packets_recv»)) 64 4 (r .«interval_bytes_recv»)

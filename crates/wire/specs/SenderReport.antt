@@ -1,10 +1,10 @@
--- SenderReport, 48 bytes (document 01, "Report bytes"): start counter 8, end counter 8, start time 4, end time 4, interval bytes 4, packets 8, bytes 8.
+-- SenderReport, 48 bytes (document 01, "Report bytes"): start counter 8, end counter 8, start time 4, end time 4, interval bytes 4, packets 8, bytes 8. Definitions only.
 use Prim.Native.Nat.{ℕ, _^_, _<_}
 use mathlib.Core.Bool.{cond}
 use mathlib.Core.List.{List, [], _∷_, _++_}
 use lib.ListN.{length}
 use lib.Dec.{leb}
-use Rattle.codec.specs.LittleEndian.{leBytes, fieldAt, withField}
+use Rattle.codec.specs.LittleEndian.{leBytes, fieldAt}
 use Rattle.wire.specs.Payload.{roomAnswer, writtenInto}
 use Rattle.wire.specs.declared.sender_report.SenderReport.{SenderReport}
 use Rattle.wire.specs.declared.sender_report.Decoded.{Decoded}
@@ -21,9 +21,11 @@ encoded r =
     ++ leBytes 8 (r .«cumulative_packets_sent»)
     ++ leBytes 8 (r .«cumulative_bytes_sent»)
 
+-- document 01, check 6: 48 bytes of room
 abbrev pub encodeAnswer : List ℕ → ℕ
 encodeAnswer out = roomAnswer 48 out
 
+-- the buffer after it is encoded there
 abbrev pub encodedInto : List ℕ → SenderReport → List ℕ
 encodedInto out r = writtenInto out (encoded r)
 
@@ -72,13 +74,3 @@ pub record Fits (r : SenderReport) : Type 0 where
   pub «interval_bytes_sent» : r .«interval_bytes_sent» < 2 ^ 32
   pub «cumulative_packets_sent» : r .«cumulative_packets_sent» < 2 ^ 64
   pub «cumulative_bytes_sent» : r .«cumulative_bytes_sent» < 2 ^ 64
-
--- ---- the parts in which the code makes the bytes up
-abbrev pub withCounters : SenderReport → List ℕ → List ℕ
-withCounters r b = withField (withField (withField b 0 1 1) 4 8 (r .«interval_start_counter»)) 12 8 (r .«interval_end_counter»)
-
-abbrev pub withTimes : SenderReport → List ℕ → List ℕ
-withTimes r b = withField (withField (withField b 20 4 (r .«interval_start_timestamp»)) 24 4 (r .«interval_end_timestamp»)) 28 4 (r .«interval_bytes_sent»)
-
-abbrev pub withTotals : SenderReport → List ℕ → List ℕ
-withTotals r b = withField (withField b 32 8 (r .«cumulative_packets_sent»)) 40 8 (r .«cumulative_bytes_sent»)

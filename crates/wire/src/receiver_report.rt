@@ -1,6 +1,7 @@
 // ReceiverReport (msg_type 0x02, 68 bytes including the type byte).
 ghost use mathlib.Core.Path.{_≡_};
-ghost use Rattle.wire.specs.ReceiverReport.{reportIn, noReport, decoded, withCounts, withBursts, withDelay, withInterval, encoded, encodeAnswer, encodedInto};
+ghost use Rattle.wire.specs.ReceiverReport.{reportIn, noReport, decoded, encoded, encodeAnswer, encodedInto};
+ghost use Rattle.wire.specs.Blocks.{withCounts, withBursts, withDelay, withInterval};
 use codec::Place;
 use codec::fields::i32_at;
 use codec::fields::put_i32;
@@ -165,8 +166,8 @@ fn block_of(r: ReceiverReport) -> [u8; 68]
     ensures { λ b. ⌜ b ≡ encoded r ⌝ }
 {
     let zeros = [0; 68];
-    let b1 = with_counts(zeros, r);
-    let b2 = with_bursts(b1, r);
-    let b3 = with_delay(b2, r);
-    with_interval(b3, r)
+    let counts = with_counts(zeros, r);
+    let bursts = with_bursts(counts, r);
+    let delay = with_delay(bursts, r);
+    with_interval(delay, r)
 }

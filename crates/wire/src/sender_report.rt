@@ -1,6 +1,7 @@
 // SenderReport (msg_type 0x01, 48 bytes including the type byte).
 ghost use mathlib.Core.Path.{_≡_};
-ghost use Rattle.wire.specs.SenderReport.{reportIn, noReport, decoded, withCounters, withTimes, withTotals, encoded, encodeAnswer, encodedInto};
+ghost use Rattle.wire.specs.SenderReport.{reportIn, noReport, decoded, encoded, encodeAnswer, encodedInto};
+ghost use Rattle.wire.specs.Blocks.{withCounters, withTimes, withTotals};
 use codec::Place;
 use codec::fields::put_u8;
 use codec::fields::put_u32;
@@ -125,7 +126,7 @@ fn block_of(r: SenderReport) -> [u8; 48]
     ensures { λ b. ⌜ b ≡ encoded r ⌝ }
 {
     let zeros = [0; 48];
-    let b1 = with_counters(zeros, r);
-    let b2 = with_times(b1, r);
-    with_totals(b2, r)
+    let counters = with_counters(zeros, r);
+    let times = with_times(counters, r);
+    with_totals(times, r)
 }

@@ -1,3 +1,4 @@
+-- `exports::payload_check` meets its contract. Assumes nothing.
 use borrow.Author.Tests.{le-leb, lt-leb}
 use Rattle.exports.specs.PayloadCheck.{checkStatus, checkNeeded, checkGiven}
 use Rattle.exports.proofs.payload_check.Statement.{statement}

@@ -10,8 +10,9 @@ use mir.Syntax.{w64}
 use mir.ValLaws.{toZ-ofZ}
 use lib.Ieee.{Float, binary64, add, sub, mul, ofInt}
 use Rattle.refusals.specs.Ranges.{delayOk}
-use Rattle.algorithms.specs.Owd.{stretch, samplesOk}
+use Rattle.algorithms.specs.Owd.{samplesOk}
 use Rattle.algorithms.specs.OwdTrend.{time, delay, product, plus}
+use Rattle.algorithms.specs.Passes.{stretch}
 use Rattle.algorithms.proofs.OwdStretches.{plus-next, samples-next, plus-over}
 use Rattle.algorithms.proofs.passes.moments_over.Statement.{statement}
 use Rattle.algorithms.proofs.passes.moments_over.Tie as tie

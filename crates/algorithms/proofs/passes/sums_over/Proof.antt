@@ -11,8 +11,9 @@ use mir.Val.{toZ, ofZ}
 use mir.ValLaws.{toZ-ofZ}
 use lib.Ieee.{Float, binary64, add, ofInt}
 use Rattle.refusals.specs.Ranges.{delayOk}
-use Rattle.algorithms.specs.Owd.{stretch, samplesOk}
+use Rattle.algorithms.specs.Owd.{samplesOk}
 use Rattle.algorithms.specs.OwdTrend.{time, delay, plus}
+use Rattle.algorithms.specs.Passes.{stretch}
 use Rattle.algorithms.proofs.OwdStretches.{plus-next, samples-next, plus-over, samples-over}
 use Rattle.algorithms.proofs.passes.sums_over.Statement.{statement}
 use Rattle.algorithms.proofs.passes.sums_over.Tie as tie

@@ -1,14 +1,14 @@
-use Prim.Native.Nat.{_-_}
+-- `codec::fields::bits32` meets its contract. Assumes nothing.
 use native.Mathlib.Omega.{arith}
-use Rattle.codec.proofs.Signed.{at-least-0, back, back-is}
+use Rattle.codec.proofs.Signed.{not-negative, back, back-is}
 use Rattle.codec.proofs.fields.bits32.Statement.{statement}
 use Rattle.codec.proofs.fields.bits32.Tie as tie
 
 cast-result : tie.Need-cast-result
-cast-result c = at-least-0 (c .before .fits .z) (c .if1 .taken) .0
+cast-result c = not-negative (c .before .fits .z) (c .if1 .taken) .0
 
 returns : tie.Need-returns
-returns c = at-least-0 (c .before .fits .z) (c .if1 .taken) .1
+returns c = not-negative (c .before .fits .z) (c .if1 .taken) .1
 
 cast-back : tie.Need-cast-back
 cast-back c = rw (back-is (c .before .fits .z) (c .if1 .left)) (tt, record { fits = omega (arith, back (c .before .fits .z) (c .if1 .left)) })

@@ -1,3 +1,4 @@
+-- `codec::fields::u16_in` meets its contract. Assumes nothing.
 use borrow.Author.Needs.{needs}
 use native.Mathlib.Omega.{arith}
 use Rattle.codec.specs.LittleEndian.{leAt}

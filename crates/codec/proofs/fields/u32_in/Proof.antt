@@ -1,3 +1,4 @@
+-- `codec::fields::u32_in` meets its contract. Assumes nothing.
 use borrow.Author.Needs.{needs}
 use native.Mathlib.Omega.{arith}
 use Rattle.codec.proofs.Widths.{le-join}

@@ -1,3 +1,4 @@
+-- `codec::reader::array_4` meets its contract. Assumes nothing.
 use borrow.Author.Needs.{needs}
 use mathlib.Core.Path.{_∙_}
 use Rattle.codec.proofs.Stores.{fresh}

@@ -1,3 +1,4 @@
+-- `codec::reader::needed_for` meets its contract. Assumes nothing.
 use borrow.Author.Needs.{needs}
 use native.Mathlib.Omega.{arith}
 use Rattle.codec.specs.Reading.{neededFor}

@@ -1,6 +1,6 @@
+-- `codec::writer::into_vec` meets its contract. Assumes nothing.
 use borrow.Author.Needs.{needs}
 use native.Mathlib.Omega.{arith}
-use lib.ListN.{length}
 use lib.Seq.{length-take-le, take-all}
 use mathlib.Core.Path.{sym}
 use Rattle.codec.proofs.writer.into_vec.Statement.{statement}

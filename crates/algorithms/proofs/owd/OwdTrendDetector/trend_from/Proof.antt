@@ -11,9 +11,10 @@ use mir.Syntax.{w32}
 use mir.ValLaws.{toZ-ofZ}
 use lib.Ieee.Casts.{toSigned-in}
 use lib.Ieee.{Float, binary64, mul, div, ofInt, ofBits}
+use Rattle.floats.specs.Operations.{thousand-float}
 use Rattle.refusals.proofs.PickedByTest.{yes, no}
 use Rattle.algorithms.specs.Owd.{Pair, window}
-use Rattle.algorithms.specs.OwdTrend.{thousand-float, time, delay, product, total, slope, trendFrom}
+use Rattle.algorithms.specs.OwdTrend.{time, delay, product, total, slope, trendFrom}
 use Rattle.algorithms.proofs.OwdStretches.{window-length}
 use Rattle.algorithms.proofs.owd.OwdTrendDetector.trend_from.Statement.{statement}
 use Rattle.algorithms.proofs.owd.OwdTrendDetector.trend_from.Tie as tie

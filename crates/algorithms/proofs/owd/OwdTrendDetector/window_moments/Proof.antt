@@ -5,8 +5,9 @@ use native.Mathlib.Omega.{arith}
 use mathlib.Core.Bool.{true}
 use lib.Ieee.{ofBits}
 use Rattle.floats.specs.Operations.{zero-float}
-use Rattle.algorithms.specs.Owd.{stretch, samplesOk}
+use Rattle.algorithms.specs.Owd.{samplesOk}
 use Rattle.algorithms.specs.OwdTrend.{time, delay, product}
+use Rattle.algorithms.specs.Passes.{stretch}
 use Rattle.algorithms.proofs.OwdStretches.{plus-window, samples-window}
 use borrow.Author.Needs.{needs}
 use Rattle.algorithms.proofs.owd.OwdTrendDetector.window_moments.Statement.{statement}

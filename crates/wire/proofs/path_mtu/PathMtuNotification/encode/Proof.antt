@@ -1,3 +1,4 @@
+-- `wire::path_mtu::PathMtuNotification::encode` meets its contract. Assumes nothing.
 use borrow.Author.Needs.{needs}
 use native.Mathlib.Omega.{arith}
 use mathlib.Core.Path.{_∙_}

@@ -1,3 +1,4 @@
+-- `wire::receiver_report::ReceiverReport::decode` meets its contract. Assumes nothing.
 use borrow.Author.Needs.{needs}
 use mathlib.Core.Path.{sym, ap, _∙_}
 use lib.ListN.{length}

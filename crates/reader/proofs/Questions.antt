@@ -1,0 +1,23 @@
+-- What a reader by value is asked, each as `PassedOn` takes it: how many bytes are left, and for the report that stands at its position.
+-- Assumes nothing: these are definitions.
+use Prim.Native.Nat.{_-_}
+use lib.ListN.{length}
+use mir.Syntax.{tyInt, w64}
+use denote.Builtin.{usize}
+use denote.Plain.{uint-lawful}
+use denote.Struct.Laws.{lawful}
+use Rattle.wire.proofs.sender_report.Decoded as Sender
+use Rattle.wire.proofs.sender_report.Decoded.Laws as Sender′
+use Rattle.wire.proofs.receiver_report.Decoded as Receiver
+use Rattle.wire.proofs.receiver_report.Decoded.Laws as Receiver′
+use Rattle.reader.specs.Reports.{senderAt, receiverAt}
+use Rattle.reader.proofs.PassedOn.{Question}
+
+abbrev pub bytes-left : Question
+bytes-left = record { type = tyInt w64; row = usize; lawful = λ 𝓤 H A W. uint-lawful 𝓤 H A W w64; answer = λ s pos. length s - pos }
+
+abbrev pub sender-report : Question
+sender-report = record { type = Sender′.mir; row = Sender.the-row; lawful = lawful Sender.the-type Sender′.the-laws; answer = senderAt }
+
+abbrev pub receiver-report : Question
+receiver-report = record { type = Receiver′.mir; row = Receiver.the-row; lawful = lawful Receiver.the-type Receiver′.the-laws; answer = receiverAt }
