@@ -16,7 +16,7 @@ use Rattle.sender.specs.declared.SenderState.{SenderState}
 use Rattle.receiver.specs.declared.ReceiverState.{ReceiverState}
 use Rattle.metrics.specs.declared.MmpMetrics.{MmpMetrics}
 use Rattle.metrics.proofs.QuestionsAnswered.{kept}
-use Rattle.history.specs.Run.{Step, Entry, All, entry, calls, notFull, shown}
+use Rattle.history.specs.Run.{All, entry, calls, notFull, shown}
 use Rattle.history.specs.Answers.{Answer}
 use Rattle.history.specs.SenderCalls.{SenderCall, senderStep}
 use Rattle.history.specs.ReceiverCalls.{ReceiverCall, receiverStep}

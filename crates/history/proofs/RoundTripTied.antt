@@ -1,7 +1,7 @@
 -- A metrics record's SRTT and RTTVAR stay tied to the exact averages of the calls on it, and the report that it keeps is the one that the list keeps.
 -- Assumes nothing.
 use mathlib.Core.Path.{_≡_, sym, _∙_, ap}
-use mathlib.Core.Bool.{Bool, cond}
+use mathlib.Core.Bool.{Bool}
 use mathlib.Core.List.{List, _∷_}
 use Prim.Native.Nat.{ℕ, _*_}
 use native.Mathlib.Omega.{arith}
@@ -9,13 +9,13 @@ use Rattle.numbers.specs.RoundTrip as rt
 use Rattle.numbers.proofs.RoundTripStaysTied as numbers
 use Rattle.wire.specs.declared.receiver_report.ReceiverReport.{ReceiverReport}
 use Rattle.algorithms.specs.Srtt.{estimateIn}
-use Rattle.figures.specs.Stale.{Saved, saved, stale}
+use Rattle.figures.specs.Stale.{Saved, stale}
 use Rattle.figures.specs.RoundTrips.{roundTrip}
 use Rattle.figures.specs.declared.RoundTrip.{RoundTrip}
 use Rattle.figures.specs.declared.RoundTrip.the-variants.{NoEcho, Sample, Zero, ArithFail}
-use Rattle.metrics.specs.State.{fresh, savedIn}
+use Rattle.metrics.specs.State.{savedIn}
 use Rattle.metrics.specs.Reports.{counted, taken, processOf}
-use Rattle.metrics.specs.Updates.{rekeyed, rekeyOf, reversed, reverseOf}
+use Rattle.metrics.specs.Updates.{rekeyOf, reverseOf}
 use Rattle.metrics.specs.declared.MmpMetrics.{MmpMetrics}
 use Rattle.metrics.proofs.ReportsByCase.{process-refusal, by-case}
 use Rattle.metrics.proofs.RoundTripsTaken.{afterTrip, fresh-estimate, fresh-saved, counted-estimator, counted-saved, taken-estimate, taken-saved, rekeyed-estimator, rekeyed-saved, reversed-leaves}

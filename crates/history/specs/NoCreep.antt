@@ -7,7 +7,7 @@ use Prim.Native.Nat.{ℕ, zero, suc, _^_}
 use lib.ListN.{drop}
 use Rattle.numbers.specs.Bounds.{Above, Within}
 use Rattle.numbers.specs.Jitter.{JitterAverage}
-use Rattle.numbers.specs.RoundTrip.{Average, Beside}
+use Rattle.numbers.specs.RoundTrip.{Beside}
 use Rattle.refusals.specs.Ranges.{ratioOk, etxOk}
 use Rattle.wire.specs.ReceiverReport.{encodeAnswer, encodedInto, decoded}
 use Rattle.wire.specs.declared.receiver_report.ReceiverReport.{ReceiverReport}

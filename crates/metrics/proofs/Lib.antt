@@ -6,3 +6,4 @@ pub mod ReportsInRange
 pub mod RuleKept
 pub mod RoundTripsTaken
 pub mod SeenApart
+mod WellWithin

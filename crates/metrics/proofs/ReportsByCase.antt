@@ -6,13 +6,10 @@ use Prim.Native.Nat.{ℕ, _-_}
 use lib.Dec.{eqb, ltb}
 use borrow.Author.Tests.{eq-eqb, ne-eqb, eqb-true}
 use Rattle.figures.specs.Delivery.{deliveryRatio}
-use Rattle.figures.specs.RoundTrips.{roundTrip}
 use Rattle.figures.specs.Stale.{stale}
-use Rattle.figures.specs.declared.RoundTrip.{RoundTrip}
-use Rattle.figures.specs.declared.RoundTrip.the-variants.{NoEcho, Sample, Zero, ArithFail}
 use Rattle.wire.specs.declared.receiver_report.ReceiverReport.{ReceiverReport}
 use Rattle.metrics.specs.State.{savedIn}
-use Rattle.metrics.specs.Reports.{counted, sampled, tripTaken, withForward, delivered, withBytes, carried, jittered, kept, measured, taken, staleOutcome, takenOutcome, answered, processed, processRefusal, refused, processOf}
+use Rattle.metrics.specs.Reports.{counted, withForward, delivered, withBytes, carried, jittered, kept, measured, taken, staleOutcome, takenOutcome, answered, processed, processRefusal, refused, processOf}
 use Rattle.metrics.specs.declared.MmpMetrics.{MmpMetrics}
 use Rattle.metrics.specs.declared.ReportProcessed.{ReportProcessed}
 
@@ -83,10 +80,6 @@ module _ (P : MmpMetrics → Type 0) (m : MmpMetrics) (rr : ReceiverReport) wher
 pub record Left (m n : MmpMetrics) : Type 0 where
   pub estimator : n .srtt ≡ m .srtt
   pub trend : n .«rtt_trend» ≡ m .«rtt_trend»
-  pub reverse : n .«delivery_ratio_reverse» ≡ m .«delivery_ratio_reverse»
-  pub reverse-packets : n .«prev_reverse_packets» ≡ m .«prev_reverse_packets»
-  pub reverse-highest : n .«prev_reverse_highest» ≡ m .«prev_reverse_highest»
-  pub reverse-has : n .«has_prev_reverse» ≡ m .«has_prev_reverse»
   pub seen : n .«reports_seen» ≡ m .«reports_seen»
   pub samples : n .«rtt_samples» ≡ m .«rtt_samples»
   pub zeros : n .«rtt_zero» ≡ m .«rtt_zero»
@@ -97,10 +90,6 @@ itself : (m : MmpMetrics) → Left m m
 itself m = record {
   estimator = refl;
   trend = refl;
-  reverse = refl;
-  reverse-packets = refl;
-  reverse-highest = refl;
-  reverse-has = refl;
   seen = refl;
   samples = refl;
   zeros = refl;
@@ -116,10 +105,6 @@ measured-leaves m rr now = later (by-bytes (Left m) (delivered m rr) rr now (byt
     first = by-delivery (Left m) m rr (λ h. record {
       estimator = refl;
       trend = refl;
-      reverse = refl;
-      reverse-packets = refl;
-      reverse-highest = refl;
-      reverse-has = refl;
       seen = refl;
       samples = refl;
       zeros = refl;
@@ -131,10 +116,6 @@ measured-leaves m rr now = later (by-bytes (Left m) (delivered m rr) rr now (byt
     bytes k = record {
       estimator = k .estimator;
       trend = k .trend;
-      reverse = k .reverse;
-      reverse-packets = k .reverse-packets;
-      reverse-highest = k .reverse-highest;
-      reverse-has = k .reverse-has;
       seen = k .seen;
       samples = k .samples;
       zeros = k .zeros;
@@ -146,39 +127,9 @@ measured-leaves m rr now = later (by-bytes (Left m) (delivered m rr) rr now (byt
     later k = record {
       estimator = k .estimator;
       trend = k .trend;
-      reverse = k .reverse;
-      reverse-packets = k .reverse-packets;
-      reverse-highest = k .reverse-highest;
-      reverse-has = k .reverse-has;
       seen = k .seen;
       samples = k .samples;
       zeros = k .zeros;
       failures = k .failures;
       last = k .last;
     }
-
--- ---- the reverse side, which no report moves
-pub record ReverseLeft (m n : MmpMetrics) : Type 0 where
-  pub ratio : n .«delivery_ratio_reverse» ≡ m .«delivery_ratio_reverse»
-  pub packets : n .«prev_reverse_packets» ≡ m .«prev_reverse_packets»
-  pub highest : n .«prev_reverse_highest» ≡ m .«prev_reverse_highest»
-  pub has : n .«has_prev_reverse» ≡ m .«has_prev_reverse»
-
-trip-leaves-reverse : (m : MmpMetrics) (t : RoundTrip) → ReverseLeft m (tripTaken (counted m) t)
-unfolding tripTaken sampled counted
-trip-leaves-reverse m NoEcho = record { ratio = refl; packets = refl; highest = refl; has = refl }
-trip-leaves-reverse m (Sample ms) = record { ratio = refl; packets = refl; highest = refl; has = refl }
-trip-leaves-reverse m Zero = record { ratio = refl; packets = refl; highest = refl; has = refl }
-trip-leaves-reverse m ArithFail = record { ratio = refl; packets = refl; highest = refl; has = refl }
-
--- refused, stale or taken
-pub process-leaves-reverse : (m : MmpMetrics) (rr : ReceiverReport) (ours now : ℕ) → ReverseLeft m (processOf m rr ours now .state)
-unfolding counted taken
-process-leaves-reverse m rr ours now =
-    by-case m rr ours now (λ p. ReverseLeft m (p .state))
-    (λ h. record { ratio = refl; packets = refl; highest = refl; has = refl })
-    (λ h s. record { ratio = refl; packets = refl; highest = refl; has = refl })
-    (λ h s.
-    let t = trip-leaves-reverse m (roundTrip rr ours) in
-    let l = measured-leaves (tripTaken (counted m) (roundTrip rr ours)) rr now in
-    record { ratio = l .reverse ∙ t .ratio; packets = l .reverse-packets ∙ t .packets; highest = l .reverse-highest ∙ t .highest; has = l .reverse-has ∙ t .has })

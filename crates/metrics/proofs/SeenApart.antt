@@ -11,24 +11,11 @@ use Rattle.figures.specs.declared.RoundTrip.{RoundTrip}
 use Rattle.figures.specs.declared.RoundTrip.the-variants.{NoEcho, Sample, Zero, ArithFail}
 use Rattle.wire.specs.declared.receiver_report.ReceiverReport.{ReceiverReport}
 use Rattle.metrics.specs.Fields.{withSeen, withReverse}
-use Rattle.metrics.specs.State.{savedIn}
 use Rattle.metrics.specs.Updates.{rekeyed, withReverseRatio, reverseMoved, reversed}
-use Rattle.metrics.specs.Reports.{counted, sampled, tripTaken, tripLog, withForward, delivered, withBytes, carried, jittered, kept, measured, taken, staleOutcome, takenOutcome, outcomeOf}
+use Rattle.metrics.specs.Reports.{sampled, tripTaken, tripLog, withForward, delivered, withBytes, carried, jittered, kept, measured, taken, takenOutcome, outcomeOf}
 use Rattle.metrics.specs.declared.MmpMetrics.{MmpMetrics}
 
 module _ (m : MmpMetrics) (seen : ℕ) where
-  -- a stale report: the same report is kept, and the same counters logged
-  pub saved-apart : savedIn (withSeen m seen) ≡ savedIn m
-  unfolding savedIn
-  saved-apart = refl
-
-  pub stale-apart : staleOutcome (withSeen m seen) ≡ staleOutcome m
-  stale-apart = refl
-
-  pub counted-apart : withSeen (counted m) seen ≡ withSeen m seen
-  unfolding counted
-  counted-apart = refl
-
   -- ---- the stages
   trip-apart : (t : RoundTrip) → tripTaken (withSeen m seen) t ≡ withSeen (tripTaken m t) seen
   unfolding tripTaken sampled

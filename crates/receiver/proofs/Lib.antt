@@ -3,3 +3,4 @@ pub mod FrameAsked
 pub mod TrendAsked
 pub mod RuleKept
 pub mod BurstLengthFits
+mod WellWithin

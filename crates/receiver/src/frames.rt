@@ -1,19 +1,16 @@
-// A frame is received.
+// What a frame moves: the counting half and the sampling half.
+
+pub mod record; // frames/record.rt: the questions of a frame, and the frame recorded
 
 ghost use mathlib.Core.Path.{_≡_};
-ghost use mathlib.Core.Bool.{true};
 ghost use Prim.Native.Nat.{_+_, _<_, _^_, max};
-ghost use Rattle.receiver.specs.Frames.{Room, reordersAfter, markedAfter, counted, countersOk, withTiming, measured, unmeasured, pushes, taken, timesAfter, delaysAfter, takenTimes, takenDelays, frameOf, frameTimes, frameDelays};
+ghost use Rattle.receiver.specs.Frames.{Room, reordersAfter, markedAfter, counted, countersOk, withTiming, measured, unmeasured, pushes, taken, timesAfter, delaysAfter, takenTimes, takenDelays};
 use crate::ReceiverState;
-use crate::ReceiverUpdate;
 use algorithms::jitter::JitterEstimator;
 use algorithms::owd::OwdTrendDetector;
 use numbers::saturating_add;
 use refusals::option::OptionU64;
-use refusals::questions::Questions;
-use refusals::ranges::clock_ok;
 use refusals::ranges::counter_u64_ok;
-use refusals::ranges::frame_size_ok;
 use samples::OwdReference;
 use samples::base_of;
 use samples::in_grace;
@@ -188,67 +185,5 @@ impl ReceiverState {
         } else {
             self.unmeasured(timestamp, now_ms, sampled)
         }
-    }
-
-    // Record a received frame from this peer, and sample its timing only when `sampled`: on a link of several paths, on the active one.
-    pub fn record_frame(
-        self,
-        times: &mut [u32],
-        delays: &mut [i64],
-        counter: u64,
-        sender_timestamp_ms: u32,
-        bytes: usize,
-        ce_flag: bool,
-        now_ms: u64,
-        sampled: bool,
-    ) -> ReceiverUpdate
-        ensures answer { λ r. ⌜ r ≡ frameOf self (now (times .entry)) (now (delays .entry)) counter «sender_timestamp_ms» bytes «ce_flag» «now_ms» sampled ⌝ }
-        ensures times { λ r. ⌜ now (times .exit) ≡ frameTimes self (now (times .entry)) (now (delays .entry)) counter «sender_timestamp_ms» bytes «now_ms» sampled ⌝ }
-        ensures delays { λ r. ⌜ now (delays .exit) ≡ frameDelays self (now (times .entry)) (now (delays .entry)) counter «sender_timestamp_ms» bytes «now_ms» sampled ⌝ }
-    {
-        let mut q = Questions::all_yes();
-        q.state = self.keeps_rule();
-        q.clocks = clock_ok(now_ms);
-        q.frame_size = frame_size_ok(bytes);
-        q.windows = self.owd_trend.windows_ok(times.len(), delays.len());
-        q.counters = self.counters_ok(counter, bytes as u64);
-        let refusal = q.first_no();
-        if refusal == 0 {
-            let counted = self.count(counter, bytes as u32, ce_flag);
-            let state = counted.take(times, delays, sender_timestamp_ms, now_ms, sampled);
-            ReceiverUpdate { refusal, state }
-        } else {
-            ReceiverUpdate {
-                refusal,
-                state: self,
-            }
-        }
-    }
-
-    // Record a received frame from this peer, sampling its timing.
-    pub fn record_recv(
-        self,
-        times: &mut [u32],
-        delays: &mut [i64],
-        counter: u64,
-        sender_timestamp_ms: u32,
-        bytes: usize,
-        ce_flag: bool,
-        now_ms: u64,
-    ) -> ReceiverUpdate
-        ensures answer { λ r. ⌜ r ≡ frameOf self (now (times .entry)) (now (delays .entry)) counter «sender_timestamp_ms» bytes «ce_flag» «now_ms» true ⌝ }
-        ensures times { λ r. ⌜ now (times .exit) ≡ frameTimes self (now (times .entry)) (now (delays .entry)) counter «sender_timestamp_ms» bytes «now_ms» true ⌝ }
-        ensures delays { λ r. ⌜ now (delays .exit) ≡ frameDelays self (now (times .entry)) (now (delays .entry)) counter «sender_timestamp_ms» bytes «now_ms» true ⌝ }
-    {
-        self.record_frame(
-            times,
-            delays,
-            counter,
-            sender_timestamp_ms,
-            bytes,
-            ce_flag,
-            now_ms,
-            true,
-        )
     }
 }

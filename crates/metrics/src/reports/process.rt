@@ -1,9 +1,16 @@
-// The stages in their order: reports seen, stale test, RTT, delivery, goodput, jitter trend, saved counters.
+// The stages in their order: reports seen, stale test, RTT, delivery, goodput, jitter trend, saved counters. Nearly every report is well within its questions,
+// which a few joined tests show; where they do not, the questions are put one by one.
 
 ghost use mathlib.Core.Path.{_≡_};
+ghost use mathlib.Core.Bool.{true};
+ghost use lib.Ieee.{binary64, add};
+ghost use Rattle.floats.specs.Operations.{lesser};
+ghost use Rattle.refusals.specs.Ranges.{clockOk, optionalClockOk, roundTripOk, counterOk};
+ghost use Rattle.algorithms.specs.Srtt as estimator;
+ghost use Rattle.figures.specs.RoundTrips.{talliesOk};
 ghost use Rattle.figures.specs.Stale.{stale};
-ghost use Rattle.metrics.specs.State.{savedIn};
-ghost use Rattle.metrics.specs.Reports.{Room, taken, answered, staleOutcome, takenOutcome, processed, refused, processOf};
+ghost use Rattle.metrics.specs.State.{trendsOk, ratiosOk, savedIn};
+ghost use Rattle.metrics.specs.Reports.{Room, taken, answered, staleOutcome, takenOutcome, processed, refused, processRefusal, processOf};
 use crate::MmpMetrics;
 use crate::Outcome;
 use crate::ReportProcessed;
@@ -11,10 +18,50 @@ use crate::RrLog;
 use figures::Counters;
 use figures::is_stale;
 use figures::round_trip;
+use figures::tallies_ok;
+use floats::least;
+use refusals::option::OptionU64;
 use refusals::questions::Questions;
+use refusals::ranges::MAX_ETX;
+use refusals::ranges::MAX_TREND;
 use refusals::ranges::clock_ok;
 use refusals::ranges::counter_u64_ok;
 use wire::receiver_report::ReceiverReport;
+
+// 2^42: reports, or 139 years in ms. No count or clock that runs has come so far.
+const FAR: u64 = 4_398_046_511_104;
+
+// 2^42 − 1 µs, 51 days: one below the bound of a round trip.
+const FAR_US: i64 = 4_398_046_511_103;
+
+// A clock that may be missing as a number, in range where the clock is.
+fn ms_of(ms: OptionU64) -> u64
+    ensures { λ r. ⌜ clockOk r ≡ optionalClockOk ms ⌝ }
+{
+    match ms {
+        OptionU64::None => 0,
+        OptionU64::Some(ms) => ms,
+    }
+}
+
+// A round trip below its bound.
+fn near_us(us: i64) -> bool
+    ensures { λ r. ⌜ (r ≡ true → roundTripOk us ≡ true) ⌝ }
+{
+    (0 <= us) & (us <= FAR_US)
+}
+
+fn sum_of(a: f64, b: f64, c: f64, d: f64, e: f64) -> f64
+    ensures { λ r. ⌜ r ≡ add binary64 (add binary64 (add binary64 (add binary64 a b) c) d) e ⌝ }
+{
+    a + b + c + d + e
+}
+
+fn least_of(a: f64, b: f64, c: f64, d: f64, e: f64, f: f64) -> f64
+    ensures { λ r. ⌜ r ≡ lesser (lesser (lesser (lesser (lesser a b) c) d) e) f ⌝ }
+{
+    least(least(least(least(least(a, b), c), d), e), f)
+}
 
 impl MmpMetrics {
     // Whether a report is stale beside the one kept.
@@ -101,6 +148,88 @@ impl MmpMetrics {
         }
     }
 
+    // Trends, ratios, ETX and goodput are in range. The trends and the goodput are at most their sum, which is a NaN where one of them is; no trend, ratio or goodput
+    // is below the least of them. A no says nothing.
+    fn floats_near(self) -> bool
+        ensures { λ r. ⌜ (r ≡ true → (trendsOk self ≡ true) × (ratiosOk self ≡ true)) ⌝ }
+    {
+        let rtt = self.rtt_trend;
+        let loss = self.loss_trend;
+        let goodput = self.goodput_trend;
+        let jitter = self.jitter_trend;
+        let etx = self.etx_trend;
+        let short = sum_of(
+            rtt.short,
+            loss.short,
+            goodput.short,
+            jitter.short,
+            etx.short,
+        );
+        let long = sum_of(rtt.long, loss.long, goodput.long, jitter.long, etx.long);
+        let forward = self.delivery_ratio_forward;
+        let reverse = self.delivery_ratio_reverse;
+        let least_short = least_of(
+            rtt.short,
+            loss.short,
+            goodput.short,
+            jitter.short,
+            etx.short,
+            forward,
+        );
+        let least_long = least_of(
+            rtt.long,
+            loss.long,
+            goodput.long,
+            jitter.long,
+            etx.long,
+            reverse,
+        );
+        let lowest = least(least(least_short, least_long), self.goodput_bps);
+        (short + long + self.goodput_bps <= MAX_TREND)
+            & (0.0 <= lowest)
+            & (forward <= 1.0)
+            & (reverse <= 1.0)
+            & (1.0 <= self.etx)
+            & (self.etx < MAX_ETX)
+    }
+
+    // The clocks, the smoothed round trip and the counts are in range, none near its end. A no says nothing.
+    fn numbers_near(self, now_ms: u64) -> bool
+        ensures { λ r. ⌜ (r ≡ true → (optionalClockOk (self .«prev_rr_ms») ≡ true)
+            × (estimator.keepsRule (self .srtt) ≡ true)
+            × (talliesOk (self .«reports_seen») (self .«rtt_samples») (self .«rtt_zero») (self .«rtt_arith_fail») ≡ true)
+            × (clockOk «now_ms» ≡ true)
+            × (counterOk 64 (self .«reports_seen») 1 ≡ true)) ⌝ }
+    {
+        let prev_rr_ms = self.prev_rr_ms;
+        let prev = ms_of(prev_rr_ms);
+        let smoothed = near_us(self.srtt.srtt_us);
+        let variation = near_us(self.srtt.rttvar_us);
+        let tallies = tallies_ok(
+            self.reports_seen,
+            self.rtt_samples,
+            self.rtt_zero,
+            self.rtt_arith_fail,
+        );
+        (prev < FAR) & (now_ms < FAR) & (self.reports_seen < FAR) & smoothed & variation & tallies
+    }
+
+    // The refusal of a report.
+    fn report_refusal(self, now_ms: u64) -> u8
+        ensures { λ r. ⌜ r ≡ processRefusal self «now_ms» ⌝ }
+    {
+        let floats = self.floats_near();
+        let numbers = self.numbers_near(now_ms);
+        if floats & numbers {
+            return 0;
+        }
+        let mut q = Questions::all_yes();
+        q.state = self.keeps_rule();
+        q.clocks = clock_ok(now_ms);
+        q.counters = counter_u64_ok(self.reports_seen, 1);
+        q.first_no()
+    }
+
     // Processes a report from the peer about our traffic. `our_timestamp_ms` is session-relative (for RTT), `now_ms` monotonic (for the goodput rate).
     pub fn process_receiver_report(
         self,
@@ -110,11 +239,7 @@ impl MmpMetrics {
     ) -> ReportProcessed
         ensures { λ r. ⌜ r ≡ processOf self rr «our_timestamp_ms» «now_ms» ⌝ }
     {
-        let mut q = Questions::all_yes();
-        q.state = self.keeps_rule();
-        q.clocks = clock_ok(now_ms);
-        q.counters = counter_u64_ok(self.reports_seen, 1);
-        let refusal = q.first_no();
+        let refusal = self.report_refusal(now_ms);
         if refusal == 0 {
             // Counted before the stale test: "a report arrived at all", not "a report was useful".
             let counted = self.tallied(self.reports_seen + 1, self.rtt_zero, self.rtt_arith_fail);

@@ -1,27 +1,13 @@
 -- `metrics::MmpMetrics::process_receiver_report` meets its contract. Assumes nothing.
 use mathlib.Core.Path.{_≡_, sym, subst, _∙_}
 use borrow.Author.Tests.{eq-eqb, ne-eqb}
-use Rattle.refusals.specs.Questions.{firstNo, asked}
-use Rattle.metrics.specs.Reports.{Room, processRefusal, counted, processOf}
+use Rattle.metrics.specs.Reports.{Room, counted, processOf}
 use Rattle.metrics.proofs.QuestionsAnswered.{ProcessAsked, process-asked}
 use Rattle.metrics.proofs.MmpMetrics.process_receiver_report.Statement.{statement}
 use Rattle.metrics.proofs.MmpMetrics.process_receiver_report.Tie as tie
 
-gate : (c : tie.After-first-no) → let a = c .before .before .before .before .before .args in c .first-no .result ≡ processRefusal (a .self) (a .now-ms)
-unfolding processRefusal firstNo asked
-gate c =
-    rw (
-      c .first-no .ensures,
-      c .before .before .before .before .all-yes .ensures,
-      c .before .before .before .keeps-rule .ensures,
-      c .before .before .clock-ok .ensures,
-      c .before .counter-u64-ok .ensures,
-    )
-
-answered : (c : tie.Then1) → let a = c .before .before .before .before .before .before .args in ProcessAsked (a .self) (a .now-ms)
-answered c =
-    let a = c .before .before .before .before .before .before .args in
-    process-asked (a .self) (a .now-ms) (sym (gate (c .before)) ∙ c .if1 .taken)
+answered : (c : tie.Then1) → let a = c .before .before .args in ProcessAsked (a .self) (a .now-ms)
+answered c = let a = c .before .before .args in process-asked (a .self) (a .now-ms) (sym (c .before .report-refusal .ensures) ∙ c .if1 .taken)
 
 fits : tie.Need-add-tallied
 fits c = record { fits = answered (c .before) .seen }
@@ -34,13 +20,13 @@ accepted : tie.Need-returns
 unfolding processOf counted
 accepted c =
     let b = c .before .before .before .before in
-    rw (c .process .ensures, c .before .tallied .ensures, eq-eqb _ 0 (sym (gate b) ∙ c .before .before .before .if1 .taken))
+    rw (c .process .ensures, c .before .tallied .ensures, eq-eqb _ 0 (sym (b .report-refusal .ensures) ∙ c .before .before .before .if1 .taken))
 
 refused : tie.Need-returns-2
 unfolding processOf
 refused c =
     let b = c .before .before in
-    rw (c .refuse .ensures, gate b, ne-eqb _ 0 (rw (gate b) at (c .before .if1 .left)))
+    rw (c .refuse .ensures, b .report-refusal .ensures, ne-eqb _ 0 (rw (b .report-refusal .ensures) at (c .before .if1 .left)))
 
 pub process-receiver-report-spec : {M : Type 1} → statement M
-process-receiver-report-spec = tie.close (tie.spec (λ c κs. tt) (λ c κs. tt) (λ c κs. tt) (λ c κs. tt) (λ c κs. tt) fits (λ c κs. tt) room (λ c κs. tt) accepted refused)
+process-receiver-report-spec = tie.close (tie.spec (λ c κs. tt) fits (λ c κs. tt) room (λ c κs. tt) accepted refused)

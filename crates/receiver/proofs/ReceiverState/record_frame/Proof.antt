@@ -1,6 +1,5 @@
 -- `receiver::ReceiverState::record_frame` meets its contract. Assumes nothing.
 use borrow.Author.Needs.{needs}
-use Rattle.refusals.specs.Questions.{firstNo, asked}
 use mathlib.Core.Path.{_≡_, sym, _∙_}
 use native.Mathlib.Omega.{arith}
 use borrow.Author.Tests.{eq-eqb, ne-eqb}
@@ -9,25 +8,13 @@ use Rattle.receiver.proofs.FrameAsked.{FrameAsked, frame-asked, counted
 use Rattle.receiver.proofs.ReceiverState.record_frame.Statement.{statement}
 use Rattle.receiver.proofs.ReceiverState.record_frame.Tie as tie
 
-gate : (c : tie.After-first-no) → let a = c .before .before .before .before .before .before .before .before .args in
-    c .first-no .result ≡ frameRefusal (a .self) (a .times .now) (a .delays .now) (a .counter) (a .bytes) (a .now-ms)
-unfolding frameRefusal firstNo asked
-gate c =
-    let b = c .before .before .before in
-    rw (
-      c .first-no .ensures,
-      b .before .before .before .all-yes .ensures,
-      b .before .before .keeps-rule .ensures,
-      b .before .clock-ok .ensures,
-      b .frame-size-ok .ensures,
-      c .before .before .windows-ok .ensures,
-      c .before .counters-ok .ensures,
-    )
+gate : (c : tie.After-frame-refusal) → let a = c .before .before .args in c .frame-refusal .result ≡ frameRefusal (a .self) (a .times .now) (a .delays .now) (a .counter) (a .bytes) (a .now-ms)
+unfolding frameRefusal
+gate c = c .frame-refusal .ensures
 
-answered : (c : tie.Then1) → let a = c .before .before .before .before .before .before .before .before .before .args in
-    FrameAsked (a .self) (a .times .now) (a .delays .now) (a .counter) (a .bytes) (a .now-ms)
+answered : (c : tie.Then1) → let a = c .before .before .before .args in FrameAsked (a .self) (a .times .now) (a .delays .now) (a .counter) (a .bytes) (a .now-ms)
 answered c =
-    let a = c .before .before .before .before .before .before .before .before .before .args in
+    let a = c .before .before .before .args in
     frame-asked (a .self) (a .times .now) (a .delays .now) (a .counter) (a .bytes) (a .now-ms) (sym (gate (c .before)) ∙ c .if1 .taken)
 
 cast : tie.Need-cast-count
@@ -42,7 +29,7 @@ accepted c =
     let t = c .before .before .before in
     let n = t .before .before .before in
     let b = n .before .before in
-    let a = b .before .before .before .before .before .before .before .before .args in
+    let a = b .before .before .args in
     let z = eq-eqb _ 0 (sym (gate b) ∙ n .before .if1 .taken) in
     let e = t .take .ensures in (
       rw (e .0, n .count .ensures, gate b, z),
@@ -60,4 +47,4 @@ refused c =
     (rw (gate b, z), (rw z, rw z))
 
 pub record-frame-spec : {M : Type 1} → statement M
-record-frame-spec = tie.close (tie.spec (λ c κs. tt) (λ c κs. tt) (λ c κs. tt) (λ c κs. tt) (λ c κs. tt) (λ c κs. tt) (λ c κs. tt) cast room (λ c κs. tt) (λ c. search needs) (λ c. search needs) accepted refused)
+record-frame-spec = tie.close (tie.spec (λ c κs. tt) cast room (λ c κs. tt) (λ c. search needs) (λ c. search needs) accepted refused)

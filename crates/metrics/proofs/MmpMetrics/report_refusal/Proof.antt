@@ -1,0 +1,29 @@
+-- `metrics::MmpMetrics::report_refusal` meets its contract. Assumes nothing.
+use mathlib.Core.Path.{sym}
+use mathlib.Core.Bool.{and-eq-true-iff}
+use Rattle.refusals.specs.Questions.{firstNo, asked}
+use Rattle.metrics.specs.Reports.{processRefusal}
+use Rattle.metrics.proofs.WellWithin.{all-answered}
+use Rattle.metrics.proofs.MmpMetrics.report_refusal.Statement.{statement}
+use Rattle.metrics.proofs.MmpMetrics.report_refusal.Tie as tie
+
+within : tie.Need-returns
+within c =
+    let b = c .before in
+    let a = b .before .before .args in
+    let y = and-eq-true-iff (b .before .floats-near .result) (b .numbers-near .result) .0 (c .if1 .taken) in
+    sym (all-answered (a .self) (a .now-ms) (b .before .floats-near .ensures (y .0)) (b .numbers-near .ensures (y .1)))
+
+each-asked : tie.Need-returns-2
+unfolding processRefusal firstNo asked
+each-asked c =
+    rw (
+      c .first-no .ensures,
+      c .before .before .before .before .all-yes .ensures,
+      c .before .before .before .keeps-rule .ensures,
+      c .before .before .clock-ok .ensures,
+      c .before .counter-u64-ok .ensures,
+    )
+
+pub report-refusal-spec : {M : Type 1} → statement M
+report-refusal-spec = tie.close (tie.spec (λ c κs. tt) (λ c κs. tt) within (λ c κs. tt) (λ c κs. tt) (λ c κs. tt) (λ c κs. tt) (λ c κs. tt) each-asked)

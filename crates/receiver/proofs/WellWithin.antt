@@ -1,0 +1,190 @@
+-- What the joined tests of a frame show of each question.
+-- Assumes nothing.
+use mathlib.Core.Path.{_≡_, refl, sym, _∙_}
+use mathlib.Core.Bool.{Bool, true, false, not, _&&_, _||_, and-eq-true-iff}
+use mathlib.Core.List.{[], _∷_}
+use Prim.Native.Nat.{ℕ, _+_, _*_, _^_}
+use native.Mathlib.Omega.{arith}
+use lib.Dec.{ltb, leb, eqb}
+use borrow.Author.Tests.{ltb-true, leb-true, eqb-true, not-true, lt-ltb, le-leb, eq-eqb}
+use Rattle.refusals.specs.Questions.{question, firstNo}
+use Rattle.refusals.specs.Ranges.{maxClock, maxFrame, clockOk, optionalClockOk, frameSizeOk, counterOk}
+use Rattle.refusals.specs.declared.option.OptionU64.{OptionU64}
+use Rattle.refusals.specs.declared.option.OptionU64.the-variants.{None, Some}
+use Rattle.refusals.proofs.FirstNoFound.{none-refuses}
+use Rattle.algorithms.specs.Jitter as jitters
+use Rattle.algorithms.specs.Owd as owds
+use Rattle.algorithms.specs.Owd.{windowsOk}
+use Rattle.algorithms.specs.declared.owd.OwdTrendDetector.{OwdTrendDetector}
+use Rattle.algorithms.proofs.OwdRuleKept as owd-kept
+use Rattle.gaps.specs.Gaps as gaps
+use Rattle.gaps.specs.Gaps.{beginsBurst, finishedBursts}
+use Rattle.gaps.specs.declared.GapTracker.{GapTracker}
+use Rattle.samples.specs.Delay.{referenceOk}
+use Rattle.receiver.specs.State.{grace, graceOk, reordersOk, keepsRule}
+use Rattle.receiver.specs.Frames.{countersOk}
+use Rattle.receiver.specs.declared.ReceiverState.{ReceiverState}
+use Rattle.receiver.proofs.QuestionsAnswered.{keeps}
+
+both : (a b : Bool) → (a && b) ≡ true → (a ≡ true) × (b ≡ true)
+both a b h = and-eq-true-iff a b .0 h
+
+-- ---- the clocks
+-- 2^42 ms
+abbrev far : ℕ
+far = 4398046511104
+
+near : (ms : ℕ) → ltb ms far ≡ true → clockOk ms ≡ true
+near ms h = let l = ltb-true ms far h in le-leb ms maxClock (omega (arith, l))
+
+-- a deadline in a clock's range
+deadline-near : (d : OptionU64) → optionalClockOk d ≡ true → graceOk d ≡ true
+deadline-near None h = refl
+deadline-near (Some ms) h = let l = leb-true ms maxClock h in le-leb ms (maxClock + grace) (omega (arith, l))
+
+-- each clock as a number that is in range where the clock is
+pub record Read (s : ReceiverState) (recv report deadline reference : ℕ) : Type 0 where
+  pub recv-read : clockOk recv ≡ optionalClockOk (s .«last_recv_ms»)
+  pub report-read : clockOk report ≡ optionalClockOk (s .«last_report_ms»)
+  pub deadline-read : clockOk deadline ≡ optionalClockOk (s .«rekey_jitter_grace_until_ms»)
+  pub reference-read : clockOk reference ≡ referenceOk (s .«owd_ref»)
+
+abbrev pub Clocks : ReceiverState → ℕ → Type 0
+Clocks s now =
+    (optionalClockOk (s .«last_recv_ms») ≡ true)
+    × (optionalClockOk (s .«last_report_ms») ≡ true)
+    × (clockOk (s .«report_interval_ms») ≡ true)
+    × (graceOk (s .«rekey_jitter_grace_until_ms») ≡ true)
+    × (referenceOk (s .«owd_ref») ≡ true)
+    × (clockOk now ≡ true)
+
+pub clocks-near : (s : ReceiverState) (now recv report deadline reference : ℕ) → Read s recv report deadline reference
+    → (ltb recv far && ltb report far && ltb (s .«report_interval_ms») far && ltb deadline far && ltb reference far && ltb now far) ≡ true
+    → Clocks s now
+clocks-near s now recv report deadline reference r h =
+    let interval = s .«report_interval_ms» in
+    let n = both (ltb recv far && ltb report far && ltb interval far && ltb deadline far && ltb reference far) (ltb now far) h in
+    let f = both (ltb recv far && ltb report far && ltb interval far && ltb deadline far) (ltb reference far) (n .0) in
+    let d = both (ltb recv far && ltb report far && ltb interval far) (ltb deadline far) (f .0) in
+    let i = both (ltb recv far && ltb report far) (ltb interval far) (d .0) in
+    let p = both (ltb recv far) (ltb report far) (i .0) in (
+      sym (r .recv-read) ∙ near recv (p .0),
+      sym (r .report-read) ∙ near report (p .1),
+      near interval (i .1),
+      deadline-near (s .«rekey_jitter_grace_until_ms») (sym (r .deadline-read) ∙ near deadline (d .1)),
+      sym (r .reference-read) ∙ near reference (f .1),
+      near now (n .1),
+    )
+
+-- ---- the window and its buffers
+pub window-lent : (w : OwdTrendDetector) (times delays : ℕ)
+    → (eqb (w .capacity) times && eqb times delays && leb 2 times && leb times 4096 && leb (w .count) times && ltb (w .first) times) ≡ true
+    → (owds.keepsRule w ≡ true) × (windowsOk w times delays ≡ true)
+window-lent w times delays h =
+    let same = eqb (w .capacity) times in
+    let alike = eqb times delays in
+    let f = both (same && alike && leb 2 times && leb times 4096 && leb (w .count) times) (ltb (w .first) times) h in
+    let c = both (same && alike && leb 2 times && leb times 4096) (leb (w .count) times) (f .0) in
+    let m = both (same && alike && leb 2 times) (leb times 4096) (c .0) in
+    let l = both (same && alike) (leb 2 times) (m .0) in
+    let e = both same alike (l .0) in
+    let t = eqb-true (w .capacity) times (e .0) in
+    let d = eqb-true times delays (e .1) in
+    let least = leb-true 2 times (l .1) in
+    let most = leb-true times 4096 (m .1) in
+    let count = leb-true (w .count) times (c .1) in
+    let first = ltb-true (w .first) times (f .1) in (
+      owd-kept.keeps w (record { least = omega (arith, t, least); most = omega (arith, t, most); count = omega (arith, t, count); first = omega (arith, t, first) }),
+      rw (eq-eqb times (w .capacity) (sym t), eq-eqb delays (w .capacity) (sym (t ∙ d))) refl,
+    )
+
+-- ---- the counts
+outside-burst : (t : GapTracker) → t .«in_burst» ≡ false → eqb (t .«current_burst_len») 0 ≡ true → leb (t .«total_burst_len») (65535 * t .«burst_count») ≡ true → gaps.keepsRule t ≡ true
+unfolding gaps.keepsRule finishedBursts
+outside-burst t out len total = rw (out, len, total) refl
+
+abbrev pub Counts : ReceiverState → ℕ → Type 0
+Counts s bytes =
+    (gaps.keepsRule (s .«gap_tracker») ≡ true)
+    × (reordersOk s ≡ true)
+    × (frameSizeOk bytes ≡ true)
+    × (counterOk 64 (s .«cumulative_packets_recv») 1 ≡ true)
+    × (counterOk 64 (s .«cumulative_bytes_recv») bytes ≡ true)
+    × (counterOk 32 (s .«gap_tracker» .«burst_count») 1 ≡ true)
+
+-- 2^63
+abbrev half : ℕ
+half = 9223372036854775808
+
+pub counts-low : (s : ReceiverState) (bytes : ℕ) → let t = s .«gap_tracker» in
+    (not (t .«in_burst») && eqb (t .«current_burst_len») 0 && leb (t .«total_burst_len») (65535 * t .«burst_count») && ltb (t .«burst_count») 4294967295
+    && leb (s .«cumulative_reorder_count») (s .«cumulative_packets_recv») && ltb (s .«cumulative_packets_recv») half && ltb (s .«cumulative_bytes_recv») half && frameSizeOk bytes)
+    ≡ true
+    → Counts s bytes
+counts-low s bytes h =
+    let t = s .«gap_tracker» in
+    let out = not (t .«in_burst») in
+    let len = eqb (t .«current_burst_len») 0 in
+    let total = leb (t .«total_burst_len») (65535 * t .«burst_count») in
+    let some = ltb (t .«burst_count») 4294967295 in
+    let late = reordersOk s in
+    let packets = ltb (s .«cumulative_packets_recv») half in
+    let sizes = ltb (s .«cumulative_bytes_recv») half in
+    let z = both (out && len && total && some && late && packets && sizes) (frameSizeOk bytes) h in
+    let y = both (out && len && total && some && late && packets) sizes (z .0) in
+    let p = both (out && len && total && some && late) packets (y .0) in
+    let r = both (out && len && total && some) late (p .0) in
+    let b = both (out && len && total) some (r .0) in
+    let g = both (out && len) total (b .0) in
+    let l = both out len (g .0) in
+    let size = leb-true bytes maxFrame (z .1) in
+    let carried = ltb-true (s .«cumulative_bytes_recv») half (y .1) in
+    let came = ltb-true (s .«cumulative_packets_recv») half (p .1) in
+    let bursts = ltb-true (t .«burst_count») 4294967295 (b .1) in (
+      outside-burst t (not-true (t .«in_burst») (l .0)) (l .1) (g .1),
+      r .1,
+      z .1,
+      lt-ltb (s .«cumulative_packets_recv» + 1) (2 ^ 64) (omega (arith, came)),
+      lt-ltb (s .«cumulative_bytes_recv» + bytes) (2 ^ 64) (omega (arith, carried, size)),
+      lt-ltb (t .«burst_count» + 1) (2 ^ 32) (omega (arith, bursts)),
+    )
+
+-- ---- all of them
+or-yes : (a b : Bool) → b ≡ true → (a || b) ≡ true
+or-yes true b h = refl
+or-yes false b h = h
+
+pub all-answered : (s : ReceiverState) (times delays bytes now : ℕ) → Clocks s now → jitters.keepsRule (s .jitter) ≡ true
+    → (owds.keepsRule (s .«owd_trend») ≡ true) × (windowsOk (s .«owd_trend») times delays ≡ true) → Counts s bytes → (counter : ℕ)
+    → firstNo (
+    question 1 (keepsRule s)
+    ∷ question 2 (clockOk now)
+    ∷ question 3 (frameSizeOk bytes)
+    ∷ question 4 (windowsOk (s .«owd_trend») times delays)
+    ∷ question 10 (countersOk s counter bytes)
+    ∷ []
+    ) ≡ 0
+all-answered s times delays bytes now c j w n counter =
+    let rule =
+    keeps s
+    (record {
+      last-recv = c .0;
+      last-report = c .1;
+      interval = c .2;
+      deadline = c .3;
+      jitter = j;
+      window = w .0;
+      reference = c .4;
+      tracker = n .0;
+      reorders = n .1;
+    }) in
+    let bursts = or-yes (not (beginsBurst (s .«gap_tracker») counter)) (counterOk 32 (s .«gap_tracker» .«burst_count») 1) (n .5) in
+    none-refuses (
+    question 1 (keepsRule s)
+    ∷ question 2 (clockOk now)
+    ∷ question 3 (frameSizeOk bytes)
+    ∷ question 4 (windowsOk (s .«owd_trend») times delays)
+    ∷ question 10 (countersOk s counter bytes)
+    ∷ []
+    )
+    (rule, (c .5, (n .2, (w .1, (rw (n .3, n .4, bursts) refl, tt)))))

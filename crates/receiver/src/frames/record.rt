@@ -1,0 +1,211 @@
+// A frame is recorded. Nearly every frame is well within its questions, which a few tests show: where several numbers have one power of 2 as their bound, the
+// compiler joins them and compares once. Where they do not show it, the questions are put one by one.
+
+ghost use mathlib.Core.Path.{_≡_};
+ghost use mathlib.Core.Bool.{true};
+ghost use mathlib.Core.List.{[], _∷_};
+ghost use Prim.Native.Nat.{ℕ};
+ghost use Rattle.refusals.specs.Questions.{question, firstNo};
+ghost use Rattle.refusals.specs.Ranges.{clockOk, optionalClockOk, frameSizeOk, counterOk};
+ghost use Rattle.algorithms.specs.Owd as owds;
+ghost use Rattle.gaps.specs.Gaps as gaps;
+ghost use Rattle.samples.specs.Delay.{referenceOk};
+ghost use Rattle.receiver.specs.State.{graceOk, reordersOk, keepsRule};
+ghost use Rattle.receiver.specs.Frames.{countersOk, frameOf, frameTimes, frameDelays};
+use crate::ReceiverState;
+use crate::ReceiverUpdate;
+use gaps::MAX_BURST_LEN;
+use refusals::option::OptionU64;
+use refusals::questions::Questions;
+use refusals::ranges::clock_ok;
+use refusals::ranges::frame_size_ok;
+use samples::OwdReference;
+
+// 2^42 ms, 139 years: no clock that runs has come so far.
+const FAR_MS: u64 = 4_398_046_511_104;
+
+// 2^63: half of what a counter holds.
+const HALF_COUNTER: u64 = 9_223_372_036_854_775_808;
+
+// A clock that may be missing as a number, in range where the clock is.
+fn ms_of(ms: OptionU64) -> u64
+    ensures { λ r. ⌜ clockOk r ≡ optionalClockOk ms ⌝ }
+{
+    match ms {
+        OptionU64::None => 0,
+        OptionU64::Some(ms) => ms,
+    }
+}
+
+// The clock of a reference that may be missing, in range where the reference is.
+fn reference_ms(owd_ref: OwdReference) -> u64
+    ensures { λ r. ⌜ clockOk r ≡ referenceOk «owd_ref» ⌝ }
+{
+    match owd_ref {
+        OwdReference::None => 0,
+        OwdReference::Some(recv_ms, _timestamp) => recv_ms,
+    }
+}
+
+impl ReceiverState {
+    // No clock is far. A no says nothing.
+    fn clocks_near(self, now_ms: u64) -> bool
+        ensures { λ r. ⌜ (r ≡ true → (optionalClockOk (self .«last_recv_ms») ≡ true)
+            × (optionalClockOk (self .«last_report_ms») ≡ true)
+            × (clockOk (self .«report_interval_ms») ≡ true)
+            × (graceOk (self .«rekey_jitter_grace_until_ms») ≡ true)
+            × (referenceOk (self .«owd_ref») ≡ true)
+            × (clockOk «now_ms» ≡ true)) ⌝ }
+    {
+        let last_recv_ms = self.last_recv_ms;
+        let recv = ms_of(last_recv_ms);
+        let last_report_ms = self.last_report_ms;
+        let report = ms_of(last_report_ms);
+        let deadline_ms = self.rekey_jitter_grace_until_ms;
+        let deadline = ms_of(deadline_ms);
+        let owd_ref = self.owd_ref;
+        let reference = reference_ms(owd_ref);
+        (recv < FAR_MS)
+            & (report < FAR_MS)
+            & (self.report_interval_ms < FAR_MS)
+            & (deadline < FAR_MS)
+            & (reference < FAR_MS)
+            & (now_ms < FAR_MS)
+    }
+
+    // The window keeps its rule, and the buffers are as long as it.
+    fn window_lent(self, times: usize, delays: usize) -> bool
+        ensures { λ r. ⌜ (r ≡ true → (owds.keepsRule (self .«owd_trend») ≡ true) × (owds.windowsOk (self .«owd_trend») times delays ≡ true)) ⌝ }
+    {
+        (self.owd_trend.capacity == times)
+            & (times == delays)
+            & (limits::MIN_OWD_WINDOW_SIZE <= times)
+            & (times <= limits::MAX_OWD_WINDOW_SIZE)
+            & (self.owd_trend.count <= times)
+            & (self.owd_trend.first < times)
+    }
+
+    // No burst is under way, and no count is near its end. A no says nothing.
+    fn counts_low(self, bytes: usize) -> bool
+        ensures { λ r. ⌜ (r ≡ true → (gaps.keepsRule (self .«gap_tracker») ≡ true)
+            × (reordersOk self ≡ true)
+            × (frameSizeOk bytes ≡ true)
+            × (counterOk 64 (self .«cumulative_packets_recv») 1 ≡ true)
+            × (counterOk 64 (self .«cumulative_bytes_recv») bytes ≡ true)
+            × (counterOk 32 (self .«gap_tracker» .«burst_count») 1 ≡ true)) ⌝ }
+    {
+        let most = MAX_BURST_LEN * self.gap_tracker.burst_count as u64;
+        !self.gap_tracker.in_burst
+            & (self.gap_tracker.current_burst_len == 0)
+            & (self.gap_tracker.total_burst_len <= most)
+            & (self.gap_tracker.burst_count < 4_294_967_295)
+            & (self.cumulative_reorder_count <= self.cumulative_packets_recv)
+            & (self.cumulative_packets_recv < HALF_COUNTER)
+            & (self.cumulative_bytes_recv < HALF_COUNTER)
+            & frame_size_ok(bytes)
+    }
+
+    // Every question of a frame is answered yes. A no says nothing.
+    fn well_within(self, times: usize, delays: usize, bytes: usize, now_ms: u64) -> bool
+        ensures { λ r. ⌜ (r ≡ true → (counter : ℕ) → firstNo (
+            question 1 (keepsRule self)
+            ∷ question 2 (clockOk «now_ms»)
+            ∷ question 3 (frameSizeOk bytes)
+            ∷ question 4 (owds.windowsOk (self .«owd_trend») times delays)
+            ∷ question 10 (countersOk self counter bytes)
+            ∷ []
+            ) ≡ 0) ⌝ }
+    {
+        let clocks = self.clocks_near(now_ms);
+        let jitter = self.jitter.keeps_rule();
+        let window = self.window_lent(times, delays);
+        let counts = self.counts_low(bytes);
+        window & counts & jitter & clocks
+    }
+
+    // The refusal of a frame.
+    fn frame_refusal(
+        self,
+        times: usize,
+        delays: usize,
+        counter: u64,
+        bytes: usize,
+        now_ms: u64,
+    ) -> u8
+        ensures { λ r. ⌜ r ≡ firstNo (
+            question 1 (keepsRule self)
+            ∷ question 2 (clockOk «now_ms»)
+            ∷ question 3 (frameSizeOk bytes)
+            ∷ question 4 (owds.windowsOk (self .«owd_trend») times delays)
+            ∷ question 10 (countersOk self counter bytes)
+            ∷ []
+            ) ⌝ }
+    {
+        if self.well_within(times, delays, bytes, now_ms) {
+            return 0;
+        }
+        let mut q = Questions::all_yes();
+        q.state = self.keeps_rule();
+        q.clocks = clock_ok(now_ms);
+        q.frame_size = frame_size_ok(bytes);
+        q.windows = self.owd_trend.windows_ok(times, delays);
+        q.counters = self.counters_ok(counter, bytes as u64);
+        q.first_no()
+    }
+
+    // Record a received frame from this peer, and sample its timing only when `sampled`: on a link of several paths, on the active one.
+    pub fn record_frame(
+        self,
+        times: &mut [u32],
+        delays: &mut [i64],
+        counter: u64,
+        sender_timestamp_ms: u32,
+        bytes: usize,
+        ce_flag: bool,
+        now_ms: u64,
+        sampled: bool,
+    ) -> ReceiverUpdate
+        ensures answer { λ r. ⌜ r ≡ frameOf self (now (times .entry)) (now (delays .entry)) counter «sender_timestamp_ms» bytes «ce_flag» «now_ms» sampled ⌝ }
+        ensures times { λ r. ⌜ now (times .exit) ≡ frameTimes self (now (times .entry)) (now (delays .entry)) counter «sender_timestamp_ms» bytes «now_ms» sampled ⌝ }
+        ensures delays { λ r. ⌜ now (delays .exit) ≡ frameDelays self (now (times .entry)) (now (delays .entry)) counter «sender_timestamp_ms» bytes «now_ms» sampled ⌝ }
+    {
+        let refusal = self.frame_refusal(times.len(), delays.len(), counter, bytes, now_ms);
+        if refusal == 0 {
+            let counted = self.count(counter, bytes as u32, ce_flag);
+            let state = counted.take(times, delays, sender_timestamp_ms, now_ms, sampled);
+            ReceiverUpdate { refusal, state }
+        } else {
+            ReceiverUpdate {
+                refusal,
+                state: self,
+            }
+        }
+    }
+
+    // Record a received frame from this peer, sampling its timing.
+    pub fn record_recv(
+        self,
+        times: &mut [u32],
+        delays: &mut [i64],
+        counter: u64,
+        sender_timestamp_ms: u32,
+        bytes: usize,
+        ce_flag: bool,
+        now_ms: u64,
+    ) -> ReceiverUpdate
+        ensures answer { λ r. ⌜ r ≡ frameOf self (now (times .entry)) (now (delays .entry)) counter «sender_timestamp_ms» bytes «ce_flag» «now_ms» true ⌝ }
+        ensures times { λ r. ⌜ now (times .exit) ≡ frameTimes self (now (times .entry)) (now (delays .entry)) counter «sender_timestamp_ms» bytes «now_ms» true ⌝ }
+        ensures delays { λ r. ⌜ now (delays .exit) ≡ frameDelays self (now (times .entry)) (now (delays .entry)) counter «sender_timestamp_ms» bytes «now_ms» true ⌝ }
+    {
+        self.record_frame(
+            times,
+            delays,
+            counter,
+            sender_timestamp_ms,
+            bytes,
+            ce_flag,
+            now_ms,
+            true,
+        )
+    }
+}
