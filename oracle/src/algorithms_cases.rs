@@ -14,14 +14,14 @@ pub fn boundary_cases(rng: &mut Rng) -> Vec<Case> {
     cases
 }
 
-pub fn random_case(rng: &mut Rng) -> Case {
-    match rng.below(8) {
-        0 => jitter_cases::random_case(rng),
-        1 => srtt_cases::random_case(rng),
-        2 | 3 => ewma_cases::random_case(rng),
-        4 | 5 => owd_cases::random_case(rng),
-        6 => etx_cases::random_case(rng),
-        _ => spin_cases::random_case(rng),
+pub fn random_case(rng: &mut Rng, call: u64) -> Case {
+    match call {
+        301..=306 => jitter_cases::random_case(rng, call),
+        311..=318 => srtt_cases::random_case(rng, call),
+        321..=328 => ewma_cases::random_case(rng, call),
+        331..=336 => owd_cases::random_case(rng, call),
+        341..=344 => etx_cases::random_case(rng, call),
+        _ => spin_cases::random_case(rng, call),
     }
 }
 

@@ -52,7 +52,7 @@ fn numbers_of(bytes: &[u8]) -> Vec<u64> {
 }
 
 /// Calls on a place and a payload.
-fn plain(call: u64, pos: usize, payload: &[u8]) -> Case {
+pub fn plain(call: u64, pos: usize, payload: &[u8]) -> Case {
     let answer = match call {
         101 => match commit(|| reader(payload, pos).remaining()) {
             Some(n) => (Numbers::of(&[n as u64]), false),
@@ -74,7 +74,7 @@ fn plain(call: u64, pos: usize, payload: &[u8]) -> Case {
 }
 
 /// Calls on a place, a count and a payload.
-fn counted(call: u64, pos: usize, n: usize, payload: &[u8]) -> Case {
+pub fn counted(call: u64, pos: usize, n: usize, payload: &[u8]) -> Case {
     let answer = match call {
         103 => match commit(|| reader(payload, pos).require(n)) {
             Some(answer) => (Numbers::of(&length(&answer)), false),
@@ -110,7 +110,7 @@ fn write(pos: usize, n: usize, buffer: &[u8], call: impl FnOnce(&mut Writer)) ->
     (Numbers::of(&[0, after as u64]).buffer(&bytes), false)
 }
 
-fn write_number(call: u64, pos: usize, v: u64, buffer: &[u8]) -> Case {
+pub fn write_number(call: u64, pos: usize, v: u64, buffer: &[u8]) -> Case {
     let answer = match call {
         123 => write(pos, 1, buffer, |w| w.write_u8(v as u8)),
         124 => write(pos, 2, buffer, |w| w.write_u16_le(v as u16)),
@@ -126,10 +126,12 @@ fn write_bytes(pos: usize, v: &[u8], buffer: &[u8]) -> Case {
 }
 
 fn new() -> Case {
-    Case::new(Numbers::of(&[121]), (Numbers::of(&[Writer::new().len() as u64]), false))
+    let pos = Writer::new().len();
+    assert!(pos == Writer::default().len(), "the default is a new one");
+    Case::new(Numbers::of(&[121]), (Numbers::of(&[pos as u64]), false))
 }
 
-fn with_capacity(n: usize, buffer: &[u8]) -> Case {
+pub fn with_capacity(n: usize, buffer: &[u8]) -> Case {
     let answer = if n <= buffer.len() {
         (Numbers::of(&[0, Writer::with_capacity(n).len() as u64]), false)
     } else {
@@ -227,31 +229,36 @@ pub fn place(rng: &mut Rng, len: usize, n: usize) -> usize {
     }
 }
 
-pub fn random_case(rng: &mut Rng) -> Case {
+pub fn random_case(rng: &mut Rng, call: u64) -> Case {
     let len = rng.below(81);
     let buffer = rng.bytes(len);
-    match rng.below(8) {
-        0..=2 => {
-            let call = PLAIN[rng.below(PLAIN.len())];
-            plain(call, place(rng, len, 8), &buffer)
-        }
-        3 | 4 => {
+    match call {
+        103 | 104 | 109 => {
             let n = place(rng, len, 0);
             let pos = place(rng, len, n.min(len));
-            counted(COUNTED[rng.below(COUNTED.len())], pos, n, &buffer)
+            counted(call, pos, n, &buffer)
         }
-        5 => {
-            let (call, n) = WRITES[rng.below(WRITES.len())];
+        122 => with_capacity(place(rng, len, 0), &buffer),
+        123..=126 => {
+            let n = 1 << (call - 123);
             write_number(call, place(rng, len, n), rng.number(n), &buffer)
         }
-        6 => {
+        127 => {
             let n = rng.below(40);
             write_bytes(place(rng, len, n), &rng.bytes(n), &buffer)
         }
-        _ => match rng.below(3) {
-            0 => with_capacity(place(rng, len, 0), &buffer),
-            1 => into_vec(place(rng, len, 0), &buffer),
-            _ => len_of(rng.number(8) as usize),
-        },
+        128 if rng.below(2) == 0 => len_of(rng.below(2000)),
+        128 => len_of(rng.number(8) as usize),
+        129 => into_vec(place(rng, len, 0), &buffer),
+        _ => {
+            let n = match call {
+                101 | 102 => 0,
+                105 => 1,
+                106 | 110 => 2,
+                107 | 111 => 4,
+                _ => 8,
+            };
+            plain(call, place(rng, len, n), &buffer)
+        }
     }
 }

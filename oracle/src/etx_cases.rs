@@ -1,7 +1,7 @@
 //! Calls 341 to 344: the expected transmission count, and the quality index.
 
 use crate::case::{Case, Numbers};
-use crate::figures::{asked, bits, first_no, float, floats_about, in_range};
+use crate::figures::{asked, bits, first_no, float, floats_about, in_range, neighbour};
 use crate::proto::mmp::algorithms::{compute_etx, quality_index};
 use crate::rng::Rng;
 
@@ -13,7 +13,7 @@ fn line(call: u64, a: f64, b: f64) -> Numbers {
     Numbers::of(&[call, a.to_bits(), b.to_bits()])
 }
 
-fn etx(d_forward: f64, d_reverse: f64) -> [Case; 2] {
+pub fn etx(d_forward: f64, d_reverse: f64) -> [Case; 2] {
     let refusal = first_no(&[(11, in_range(d_forward, 0.0, 1.0) && in_range(d_reverse, 0.0, 1.0))]);
     let value = bits(compute_etx(d_forward, d_reverse));
     [
@@ -22,7 +22,7 @@ fn etx(d_forward: f64, d_reverse: f64) -> [Case; 2] {
     ]
 }
 
-fn quality(etx: f64, rtt_ms: f64) -> [Case; 2] {
+pub fn quality(etx: f64, rtt_ms: f64) -> [Case; 2] {
     let refusal = first_no(&[(11, in_range(etx, 1.0, MAX_ETX) && in_range(rtt_ms, 0.0, MAX_RTT_MS))]);
     let value = bits(quality_index(etx, rtt_ms));
     [
@@ -52,15 +52,27 @@ pub fn boundary_cases() -> Vec<Case> {
     cases
 }
 
-pub fn random_case(rng: &mut Rng) -> Case {
-    let [checked, unchecked] = if rng.below(2) == 0 {
-        etx(float(rng, 1.0), float(rng, 1.0))
+pub fn random_case(rng: &mut Rng, call: u64) -> Case {
+    let [checked, unchecked] = if call == 341 || call == 343 {
+        let a = float(rng, 1.0);
+        // about the products at which the count meets its ends
+        let b = match rng.below(4) {
+            0 => neighbour(rng, 0.01 / a),
+            1 => neighbour(rng, 1.0 / a),
+            _ => float(rng, 1.0),
+        };
+        etx(a, b)
     } else {
-        quality(1.0 + float(rng, 99.0), float(rng, MAX_RTT_MS))
+        let end = [1.0, MAX_ETX][rng.below(2)];
+        let a = match rng.below(8) {
+            0 => neighbour(rng, end),
+            _ => 1.0 + float(rng, 99.0),
+        };
+        quality(a, float(rng, MAX_RTT_MS))
     };
-    if rng.below(3) == 0 {
-        unchecked
-    } else {
+    if call < 343 {
         checked
+    } else {
+        unchecked
     }
 }

@@ -1,7 +1,7 @@
 //! Calls 321 to 328: `DualEwma`.
 
 use crate::case::{Case, Numbers};
-use crate::figures::{asked, bits, first_no, float, floats_about, in_range, MAX_TREND};
+use crate::figures::{asked, bits, first_no, float, floats_about, in_range, neighbour, MAX_TREND};
 use crate::proto::mmp::algorithms::oracle_access::ewma;
 use crate::proto::mmp::algorithms::DualEwma;
 use crate::rng::Rng;
@@ -40,7 +40,7 @@ impl State {
         ewma(self.short, self.long, self.initialized)
     }
 
-    fn stepped(self, sample: f64) -> State {
+    pub fn stepped(self, sample: f64) -> State {
         let mut s = self.commit();
         s.update(sample);
         read(&s)
@@ -56,12 +56,12 @@ fn new(call: u64) -> Case {
     Case::new(Numbers::of(&[call]), (Numbers::of(&read(&s).numbers()), false))
 }
 
-fn update(s: State, sample: f64) -> Case {
+pub fn update(s: State, sample: f64) -> Case {
     let answer = asked(s.refusal(sample), &s.numbers(), || s.stepped(sample).numbers().to_vec());
     Case::new(s.line(323).and(&[sample.to_bits()]), answer)
 }
 
-fn accessor(call: u64, s: State) -> Case {
+pub fn accessor(call: u64, s: State) -> Case {
     let answer = asked(first_no(&[(1, s.keeps())]), &[0], || {
         let c = s.commit();
         vec![match call {
@@ -129,18 +129,22 @@ pub fn boundary_cases() -> Vec<Case> {
     cases
 }
 
-pub fn random_case(rng: &mut Rng) -> Case {
+pub fn random_case(rng: &mut Rng, call: u64) -> Case {
     let s = State {
         short: float(rng, MAX_TREND),
         long: float(rng, MAX_TREND),
         initialized: rng.below(4) > 0,
     };
-    let sample = float(rng, MAX_TREND);
-    match rng.below(10) {
-        0 => keeps_rule(s),
-        1 | 2 => step(s, sample),
-        3 => accessor(324 + rng.below(3) as u64, s),
-        _ => update(s, sample),
+    let sample = match rng.below(6) {
+        0 => neighbour(rng, s.short),
+        1 => neighbour(rng, s.long),
+        _ => float(rng, MAX_TREND),
+    };
+    match call {
+        323 => update(s, sample),
+        327 => keeps_rule(s),
+        328 => step(s, sample),
+        _ => accessor(call, s),
     }
 }
 

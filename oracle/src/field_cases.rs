@@ -93,20 +93,20 @@ pub fn boundary_cases(rng: &mut Rng) -> Vec<Case> {
     cases
 }
 
-pub fn random_case(rng: &mut Rng) -> Case {
+pub fn random_case(rng: &mut Rng, call: u64) -> Case {
     let len = rng.below(81);
     let buffer = rng.bytes(len);
-    match rng.below(6) {
-        0 | 1 => {
-            let call = FIELDS[rng.below(FIELDS.len())];
-            field_at(call, place(rng, len, 4), &buffer)
-        }
-        2 | 3 => {
-            let (call, n) = PUTS[rng.below(PUTS.len())];
+    match call {
+        147 => signed32(rng.number(4) as u32),
+        148 => bits32(rng.number(4) as i32),
+        151..=155 => {
+            let (_, n) = PUTS[(call - 151) as usize];
             let v = rng.number(n);
             put_field(call, place(rng, len, n), given(call, v), &buffer)
         }
-        4 => signed32(rng.number(4) as u32),
-        _ => bits32(rng.number(4) as i32),
+        _ => {
+            let n = [1, 2, 4, 8, 4, 0][(call - 141) as usize];
+            field_at(call, place(rng, len, n), &buffer)
+        }
     }
 }

@@ -76,8 +76,32 @@ pub fn float(rng: &mut Rng, bound: f64) -> f64 {
         1 => f64::from_bits(rng.draw()),
         2 | 3 => f64::from_bits(rng.draw() % bound.to_bits()),
         4 => bound * f64::from(rng.below(9) as u32) / 8.0,
+        5 => tiny(rng),
         _ => bound * unit(rng),
     }
+}
+
+/// Closer to 0 than every normal float: 0, −0.0 and subnormal ones.
+fn tiny(rng: &mut Rng) -> f64 {
+    let x = f64::from_bits(rng.draw() >> 12 >> rng.below(53));
+    match rng.below(8) {
+        0 => -0.0,
+        1 => -x,
+        _ => x,
+    }
+}
+
+/// A float some steps of its last bit away, or itself.
+pub fn neighbour(rng: &mut Rng, x: f64) -> f64 {
+    f64::from_bits(x.to_bits().wrapping_add(rng.below(9) as u64).wrapping_sub(4))
+}
+
+/// A number past 2^53 that is no float: half way between two, or just beside that.
+pub fn between_floats(rng: &mut Rng) -> u64 {
+    let dropped = 1 + rng.below(11);
+    let kept = (1 << 52) | (rng.draw() >> 12);
+    let half = (kept << dropped) | (1 << (dropped - 1));
+    beside(rng, half)
 }
 
 /// From 0 to below 1.
@@ -107,6 +131,14 @@ pub fn clock(rng: &mut Rng) -> u64 {
         0 => CLOCKS[rng.below(CLOCKS.len())],
         1 => boundaries(8)[rng.below(20)],
         _ => rng.number(8) & MAX_MS,
+    }
+}
+
+/// A clock about the last in range, or any.
+pub fn about_last_clock(rng: &mut Rng) -> u64 {
+    match rng.below(4) {
+        0 => clock(rng),
+        _ => beside(rng, MAX_MS),
     }
 }
 
@@ -151,5 +183,15 @@ pub fn bounds(rng: &mut Rng) -> (u64, u64) {
             let min_ms = rng.below(5000) as u64;
             (min_ms, min_ms + rng.below(5000) as u64)
         }
+    }
+}
+
+/// Interval bounds, or such with one about the last in range.
+pub fn any_bounds(rng: &mut Rng) -> (u64, u64) {
+    let (min_ms, max_ms) = bounds(rng);
+    match rng.below(12) {
+        0 => (beside(rng, MAX_MS), max_ms),
+        1 => (min_ms, beside(rng, MAX_MS)),
+        _ => (min_ms, max_ms),
     }
 }

@@ -1,7 +1,9 @@
 //! Calls 631 to 637: the figures that a report moves, each from a few numbers, by what they leave in the commit's record.
 
 use crate::case::{Case, Numbers};
-use crate::figures::{beside, bits, clock, float, floats_about, in_range, maybe, near, optional, CLOCKS, MAX_US};
+use crate::figures::{
+    beside, between_floats, bits, clock, float, floats_about, in_range, maybe, near, neighbour, optional, CLOCKS, MAX_US,
+};
 use crate::metrics_state::{Metrics, MAX_GOODPUT};
 use crate::proto::mmp::metrics::oracle_access::{fields as taken_apart, state, Fields};
 use crate::proto::mmp::metrics::{MmpMetrics, RrLog};
@@ -107,6 +109,8 @@ pub fn boundary_cases(rng: &mut Rng) -> Vec<Case> {
         cases.push(tallies_ok([n, 1, 1, n]));
         cases.push(smoothed_ms(n as i64, n % 2 == 0));
     }
+    about_counters(&mut cases);
+    about_rounding(&mut cases);
     for (echo, dwell) in [
         (0, 9),
         (1, 0),
@@ -131,14 +135,40 @@ pub fn boundary_cases(rng: &mut Rng) -> Vec<Case> {
             }
         }
     }
-    (0..20).for_each(|_| cases.push(random_case(rng)));
+    (631..=637).for_each(|call| (0..4).for_each(|_| cases.push(random_case(rng, call))));
     cases
 }
 
-pub fn random_case(rng: &mut Rng) -> Case {
+/// Each of the five counters one less, and one more, beside the others as they were.
+fn about_counters(cases: &mut Vec<Case>) {
+    let kept: [u64; 5] = [110, 100, 80_000, 3, 2];
+    for i in 0..5 {
+        for step in [-1, 1] {
+            let mut next = kept;
+            next[i] = next[i].wrapping_add_signed(step);
+            let [highest, packets, bytes, ecn, reorders] = next;
+            let report = receiver(&[highest, packets, bytes, 0, 0, 0, 0, 0, ecn, 0, 0, reorders, 0, 0]);
+            cases.push(is_stale(kept, &report));
+        }
+    }
+}
+
+/// Bytes in a second, so that the goodput is the number as a float: half way between two floats, the even one below and above, and beside that.
+fn about_rounding(cases: &mut Vec<Case>) {
+    for dropped in 1..12 {
+        for kept in [1 << 52, (1 << 52) + 1, (1 << 53) - 2, (1 << 53) - 1] {
+            let half: u64 = (kept << dropped) | (1 << (dropped - 1));
+            for n in [half - 1, half, half + 1] {
+                cases.push(goodput_after(0.0, n, Some(0), 1000));
+            }
+        }
+    }
+}
+
+pub fn random_case(rng: &mut Rng, call: u64) -> Case {
     let mut report = receiver(&fields(rng, &RECEIVER));
-    match rng.below(8) {
-        0 | 1 => {
+    match call {
+        631 => {
             let all = receiver_fields(&report);
             let mut kept = [all[0], all[1], all[2], all[8], all[11]];
             let i = rng.below(5);
@@ -147,7 +177,7 @@ pub fn random_case(rng: &mut Rng) -> Case {
             }
             is_stale(kept, &report)
         }
-        2 => {
+        632 => {
             if rng.below(2) == 0 {
                 report.timestamp_echo = u32::MAX - rng.below(70_000) as u32;
             }
@@ -155,22 +185,31 @@ pub fn random_case(rng: &mut Rng) -> Case {
             let ours = beside(rng, done).saturating_add(rng.below(3000) as u64 * rng.below(2) as u64);
             round_trip(&report, ours.min(u32::MAX.into()) as u32)
         }
-        3 => smoothed_ms(near(rng, MAX_US), rng.below(2) == 0),
-        4 => {
+        633 => smoothed_ms(near(rng, MAX_US), rng.below(2) == 0),
+        634 => {
             let seen = rng.number(8);
             let part = rng.draw() % seen.max(1);
             tallies_ok([seen, part, rng.below(2) as u64, beside(rng, seen - part.min(seen))])
         }
-        5 => {
-            let span = rng.number(8);
-            delivery_ratio(if rng.below(2) == 0 { beside(rng, span) } else { rng.number(8) }, span)
+        635 => {
+            let span = whole(rng);
+            delivery_ratio(if rng.below(2) == 0 { beside(rng, span) } else { whole(rng) }, span)
         }
-        6 => goodput_ok(float(rng, MAX_GOODPUT)),
+        636 if rng.below(2) == 0 => goodput_ok(neighbour(rng, MAX_GOODPUT)),
+        636 => goodput_ok(float(rng, MAX_GOODPUT)),
         _ => {
             let prev_ms = maybe(rng, clock);
             let now_ms = prev_ms.unwrap_or(0).saturating_add(rng.below(9000) as u64);
             let goodput = if rng.below(4) == 0 { 0.0 } else { float(rng, MAX_GOODPUT) };
-            goodput_after(goodput, rng.number(8), prev_ms, if rng.below(4) == 0 { clock(rng) } else { now_ms })
+            goodput_after(goodput, whole(rng), prev_ms, if rng.below(4) == 0 { clock(rng) } else { now_ms })
         }
+    }
+}
+
+/// A number that becomes a float: any, or one that is to be rounded.
+fn whole(rng: &mut Rng) -> u64 {
+    match rng.below(4) {
+        0 => between_floats(rng),
+        _ => rng.number(8),
     }
 }

@@ -45,7 +45,7 @@ fn new() -> Case {
 }
 
 /// Where a count or a sum is full the commit panics; the call itself asks nothing, and saturates.
-fn observed(t: &Tracker, counter: u64) -> (Case, Tracker) {
+pub fn observed(t: &Tracker, counter: u64) -> (Case, Tracker) {
     let answer = commit(|| observe(t, counter));
     let outside = answer.is_none();
     let (lost, after) = answer.unwrap_or_else(|| {
@@ -80,7 +80,7 @@ fn ended(t: &Tracker) -> (Tracker, bool) {
     )
 }
 
-fn finish(t: &Tracker) -> Case {
+pub fn finish(t: &Tracker) -> Case {
     let (after, outside) = ended(t);
     on_tracker(454, t, &[], &tracker_numbers(&after), outside)
 }
@@ -156,6 +156,7 @@ pub fn edges() -> Vec<Tracker> {
         of(true, 5, u32::MAX, 4, MAX_LEN * (most - 1)),
         of(true, 5, u32::MAX, 4, u64::MAX),
         of(false, 0, u32::MAX - 1, 4, 4),
+        of(false, 0, 1 << 20, 900, (255 << 20) + 1),
     ]
 }
 
@@ -217,23 +218,45 @@ pub fn counter_for(rng: &mut Rng, t: &Tracker) -> u64 {
     }
 }
 
-pub fn random_case(rng: &mut Rng) -> Case {
+pub fn random_case(rng: &mut Rng, call: u64) -> Case {
     let mut t = any_tracker(rng);
     if rng.below(4) == 0 {
-        t.total_burst_len = rng.number(8);
-        t.burst_count = rng.number(4) as u32;
-        t.current_burst_len = rng.number(2) as u16;
+        spoil(rng, &mut t);
     }
     let counter = counter_for(rng, &t);
-    match rng.below(10) {
-        0 => keeps_rule(&t),
-        1 => begins(&t, counter),
-        2 => bursts_ok(&t, counter),
-        3 => finish(&t),
-        4 | 5 => stats(&t).0,
-        6 => mean_burst(t.total_burst_len, t.burst_count),
-        _ => observed(&t, counter).0,
+    match call {
+        452 => observed(&t, counter).0,
+        453 => stats(&t).0,
+        454 => finish(&t),
+        455 => keeps_rule(&t),
+        456 => begins(&t, counter),
+        457 => bursts_ok(&t, counter),
+        _ => mean_burst(about_whole_mean(rng, t.burst_count, t.total_burst_len), t.burst_count),
     }
+}
+
+/// Breaks a clause of the rule, or not quite; or a tracker of any numbers.
+pub fn spoil(rng: &mut Rng, t: &mut Tracker) {
+    match rng.below(4) {
+        0 => t.total_burst_len = beside(rng, MAX_LEN * finished(t)),
+        1 => (t.in_burst, t.current_burst_len, t.burst_count) = (true, rng.number(2) as u16, rng.below(2) as u32),
+        2 => (t.in_burst, t.current_burst_len) = (false, rng.below(2) as u16),
+        _ => {
+            t.total_burst_len = rng.number(8);
+            t.burst_count = rng.number(4) as u32;
+            t.current_burst_len = rng.number(2) as u16;
+        }
+    }
+}
+
+/// A total whose mean is about a whole number of 256ths, up to and past the greatest; or the one given.
+fn about_whole_mean(rng: &mut Rng, count: u32, total: u64) -> u64 {
+    let mean = match rng.below(3) {
+        0 => 65_534 + rng.below(3) as u64,
+        1 => rng.below(70_000) as u64,
+        _ => return total,
+    };
+    beside(rng, (mean * u64::from(count)).div_ceil(256))
 }
 
 /// Frames, each on what the last one left, and seldom an interval's end.

@@ -13,7 +13,7 @@ fn keeps(q4: i64) -> bool {
     (0..=MAX).contains(&q4)
 }
 
-fn stepped(q4: i64, d: i32) -> i64 {
+pub fn stepped(q4: i64, d: i32) -> i64 {
     let mut s = jitter(q4);
     s.update(d);
     jitter_q4(&s)
@@ -28,13 +28,13 @@ fn new(call: u64) -> Case {
     Case::new(Numbers::of(&[call]), (Numbers::of(&[jitter_q4(&s) as u64]), false))
 }
 
-fn update(q4: i64, d: i32) -> Case {
+pub fn update(q4: i64, d: i32) -> Case {
     let refusal = first_no(&[(1, keeps(q4))]);
     let answer = asked(refusal, &[q4 as u64], || vec![stepped(q4, d) as u64]);
     Case::new(Numbers::of(&[303, q4 as u64, pattern(d)]), answer)
 }
 
-fn jitter_us(q4: i64) -> Case {
+pub fn jitter_us(q4: i64) -> Case {
     let refusal = first_no(&[(1, keeps(q4))]);
     let answer = asked(refusal, &[0], || vec![jitter(q4).jitter_us().into()]);
     Case::new(Numbers::of(&[304, q4 as u64]), answer)
@@ -45,7 +45,7 @@ fn keeps_rule(q4: i64) -> Case {
 }
 
 /// The step of any state: a jitter below 0, which no rule allows, counts as 0.
-fn step(q4: i64, d: i32) -> Case {
+pub fn step(q4: i64, d: i32) -> Case {
     let answer = Numbers::of(&[stepped(q4.max(0), d) as u64]);
     Case::new(Numbers::of(&[306, q4 as u64, pattern(d)]), (answer, q4 < 0))
 }
@@ -63,14 +63,17 @@ pub fn boundary_cases() -> Vec<Case> {
     cases
 }
 
-pub fn random_case(rng: &mut Rng) -> Case {
+pub fn random_case(rng: &mut Rng, call: u64) -> Case {
     let q4 = near(rng, MAX);
-    let d = rng.number(4) as i32;
-    match rng.below(8) {
-        0 | 1 => jitter_us(q4),
-        2 => keeps_rule(q4),
-        3 => step(q4, d),
-        _ => update(q4, d),
+    let d = match rng.below(3) {
+        0 => 1000 * (rng.below(4001) as i32 - 2000),
+        _ => rng.number(4) as i32,
+    };
+    match call {
+        303 => update(q4, d),
+        304 => jitter_us(q4),
+        305 => keeps_rule(q4),
+        _ => step(q4, d),
     }
 }
 

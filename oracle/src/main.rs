@@ -1,7 +1,11 @@
 //! oracle compare [--cases N] [--seed S] [--replay PATH]
 //!     runs replay on N cases and compares each answer with the commit's
-//! oracle store DIR [--cases N] [--seed S]
+//! oracle store DIR [--seed S]
 //!     writes DIR/stdin, a script, and DIR/stdout, the commit's answers
+//! oracle covered DIR
+//!     tells what a stored script lacks of docs/REPLAY.md's tables
+//! oracle differences [DOCUMENT] [--replay PATH]
+//!     runs the points of docs/DIFFERENCES.md, and prints those that it does not have as they were run
 //! oracle histories [--cases N] [--seed S]
 //!     runs N histories of a link, and some that are looked for, beside the exact averages
 
@@ -10,7 +14,8 @@ use std::process::ExitCode;
 use std::{env, fs, io};
 
 use oracle::case::{hush_commit, Case};
-use oracle::{histories, report, script};
+use oracle::rng::Rng;
+use oracle::{covered, differences, histories, report, script};
 
 struct Options {
     cases: usize,
@@ -37,23 +42,46 @@ fn options(mut words: impl Iterator<Item = String>, cases: usize) -> Option<Opti
     Some(options)
 }
 
+/// How many cases are made and held at a time.
+const AT_A_TIME: usize = 250_000;
+
 fn compare(options: &Options) -> io::Result<bool> {
-    let cases = script::cases(options.seed, options.cases);
-    let answers = script::run(&options.replay, script::text(&cases))?;
-    Ok(report::compare(&cases, &answers) == 0)
+    let mut script = script::Script::new(options.seed);
+    let mut report = report::Report::default();
+    let mut left = options.cases;
+    while left > 0 {
+        let cases: Vec<Case> = script.by_ref().take(left.min(AT_A_TIME)).collect();
+        let answers = script::run(&options.replay, script::text(&cases))?;
+        report.add(&cases, &answers);
+        left -= cases.len();
+    }
+    report.print();
+    Ok(report.different() == 0)
 }
 
 fn store(options: &Options) -> io::Result<bool> {
     let Some(dir) = &options.dir else {
         return Err(io::Error::other("store asks for a folder"));
     };
-    let cases = script::cases(options.seed, options.cases);
+    let cases = script::stored(&mut Rng::new(options.seed));
     let line = |(i, case): (usize, &Case)| case.expected(i + 1) + "\n";
-    let answers: String = cases.iter().enumerate().map(line).collect();
-    fs::write(dir.join("stdin"), script::text(&cases))?;
-    fs::write(dir.join("stdout"), answers)?;
-    println!("{} lines", cases.len());
-    Ok(true)
+    let (script, answers) = (script::text(&cases), cases.iter().enumerate().map(line).collect::<String>());
+    fs::write(dir.join("stdin"), &script)?;
+    fs::write(dir.join("stdout"), &answers)?;
+    Ok(covered::covered(&script, &answers))
+}
+
+fn cover(options: &Options) -> io::Result<bool> {
+    let Some(dir) = &options.dir else {
+        return Err(io::Error::other("covered asks for a folder"));
+    };
+    let (script, answers) = (fs::read_to_string(dir.join("stdin"))?, fs::read_to_string(dir.join("stdout"))?);
+    Ok(covered::covered(&script, &answers))
+}
+
+fn part(options: &Options) -> io::Result<bool> {
+    let document = options.dir.clone().unwrap_or(PathBuf::from("docs/DIFFERENCES.md"));
+    differences::run(&options.replay, &document)
 }
 
 fn live(options: &Options) -> io::Result<bool> {
@@ -67,6 +95,8 @@ fn main() -> ExitCode {
     let done = match words.next().as_deref() {
         Some("compare") => options(words, 600_000).map(|o| compare(&o)),
         Some("store") => options(words, 0).map(|o| store(&o)),
+        Some("covered") => options(words, 0).map(|o| cover(&o)),
+        Some("differences") => options(words, 0).map(|o| part(&o)),
         Some("histories") => options(words, 2000).map(|o| live(&o)),
         _ => None,
     };
@@ -79,7 +109,9 @@ fn main() -> ExitCode {
         }
         None => {
             eprintln!("usage: oracle compare [--cases N] [--seed S] [--replay PATH]");
-            eprintln!("       oracle store DIR [--cases N] [--seed S]");
+            eprintln!("       oracle store DIR [--seed S]");
+            eprintln!("       oracle covered DIR");
+            eprintln!("       oracle differences [DOCUMENT] [--replay PATH]");
             eprintln!("       oracle histories [--cases N] [--seed S]");
             ExitCode::FAILURE
         }

@@ -2,9 +2,10 @@
 
 use crate::case::Case;
 use crate::ewma_cases;
-use crate::figures::{beside, clock, clock_within, float, floats_about, in_range, maybe, near, unit, MAX_MS, MAX_TREND, MAX_US};
+use crate::figures::{
+    beside, between_floats, clock, clock_within, float, floats_about, in_range, maybe, near, unit, MAX_MS, MAX_TREND, MAX_US,
+};
 use crate::metrics_call::{Call, PLAIN};
-use crate::metrics_edges::new;
 use crate::metrics_state::{Metrics, MAX_ETX, MAX_GOODPUT};
 use crate::proto::mmp::metrics::oracle_access::Fields;
 use crate::proto::mmp::wire::ReceiverReport;
@@ -155,6 +156,7 @@ fn on_from(rng: &mut Rng, before: u64) -> u64 {
         0 => before.saturating_sub(1),
         1..=3 => before,
         4 => before.saturating_add(rng.number(8)),
+        5 => before.saturating_add(between_floats(rng)),
         _ => before.saturating_add(rng.below(2000) as u64),
     }
 }
@@ -180,7 +182,11 @@ pub fn any_report(rng: &mut Rng, m: &Metrics) -> ReceiverReport {
         5 => report.cumulative_reorder_count = beside(rng, report.cumulative_reorder_count.into()) as u32,
         6 => report.highest_counter = on_from(rng, report.highest_counter),
         _ => {
-            let span = if rng.below(3) == 0 { rng.number(8) } else { rng.below(300) as u64 };
+            let span = match rng.below(6) {
+                0 => rng.number(8),
+                1 => between_floats(rng),
+                _ => rng.below(300) as u64,
+            };
             let came = if rng.below(3) == 0 { span } else { rng.below(300) as u64 };
             report.highest_counter = report.highest_counter.saturating_add(span);
             report.cumulative_packets_recv = report.cumulative_packets_recv.saturating_add(came);
@@ -212,15 +218,9 @@ fn report_clock(rng: &mut Rng, m: &Metrics) -> u64 {
     }
 }
 
-fn any_call(rng: &mut Rng, m: &Metrics) -> Call {
-    match rng.below(20) {
-        0 => Call::Rekey,
-        1..=4 => Call::Reverse {
-            packets: on_from(rng, m.fields.prev_reverse_packets),
-            highest: on_from(rng, m.fields.prev_reverse_highest),
-        },
-        5..=8 => PLAIN[rng.below(PLAIN.len())].clone(),
-        _ => {
+fn any_call(rng: &mut Rng, m: &Metrics, number: u64) -> Call {
+    match number {
+        603 => {
             let report = any_report(rng, m);
             Call::Process {
                 our_timestamp_ms: our_time(rng, &report),
@@ -228,17 +228,24 @@ fn any_call(rng: &mut Rng, m: &Metrics) -> Call {
                 now_ms: report_clock(rng, m),
             }
         }
+        604 => Call::Rekey,
+        605 => Call::Reverse {
+            packets: on_from(rng, m.fields.prev_reverse_packets),
+            highest: on_from(rng, m.fields.prev_reverse_highest),
+        },
+        _ => PLAIN
+            .iter()
+            .find(|call| call.number() == number)
+            .expect("a call of the metrics")
+            .clone(),
     }
 }
 
-pub fn random_case(rng: &mut Rng) -> Case {
-    if rng.below(200) == 0 {
-        return new(601 + rng.below(2) as u64);
-    }
+pub fn random_case(rng: &mut Rng, number: u64) -> Case {
     let mut m = any_metrics(rng);
     if rng.below(6) == 0 {
         spoil(rng, &mut m);
     }
-    let call = any_call(rng, &m);
+    let call = any_call(rng, &m, number);
     m.call(&call).0
 }

@@ -9,7 +9,7 @@ use crate::proto::mmp::metrics::MmpMetrics;
 use crate::proto::mmp::wire::ReceiverReport;
 use crate::wire_cases::receiver;
 
-pub fn new(call: u64) -> Case {
+fn new(call: u64) -> Case {
     let s = if call == 601 { MmpMetrics::new() } else { MmpMetrics::default() };
     Case::new(Numbers::of(&[call]), (Numbers::of(&Metrics::of(&s).numbers()), false))
 }
@@ -135,9 +135,14 @@ pub fn boundary_cases() -> Vec<Case> {
 
 /// Every accessor of a new state, of one in the middle, and of one that breaks the rule.
 fn about_accessors(cases: &mut Vec<Case>) {
-    let mut lawless = plain();
-    lawless.fields.goodput_bps = -1.0;
-    for m in [Metrics::of(&MmpMetrics::new()), plain(), lawless] {
+    let mut states = vec![Metrics::of(&MmpMetrics::new()), plain(), plain()];
+    states[2].fields.goodput_bps = -1.0;
+    for srtt_us in [-1, (1 << 53) + 1, i64::MAX, i64::MIN] {
+        let mut m = plain();
+        m.fields.srtt.srtt_us = srtt_us;
+        states.push(m);
+    }
+    for m in states {
         cases.extend(PLAIN.iter().map(|call| m.call(call).0));
     }
 }
@@ -197,7 +202,7 @@ fn about_round_trips(cases: &mut Vec<Case>) {
 
 /// Spans, packets, bytes and times of 0, of 1 and at the ends.
 fn about_deltas(cases: &mut Vec<Case>) {
-    let ends = [0, 1, 3, 7, (1 << 53) + 1, u64::MAX - 1, u64::MAX];
+    let ends = [0, 1, 3, 7, (1 << 53) + 1, (1 << 53) + 3, u64::MAX - 1, u64::MAX];
     for a in ends {
         for b in ends {
             let mut m = plain();

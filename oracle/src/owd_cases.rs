@@ -3,7 +3,7 @@
 use std::collections::VecDeque;
 
 use crate::case::{pattern, Case, Numbers};
-use crate::figures::{about, asked, first_no, near, MAX_US};
+use crate::figures::{about, asked, beside, first_no, near, MAX_US};
 use crate::owd_ring::Ring;
 use crate::proto::mmp::algorithms::oracle_access::{owd, owd_window};
 use crate::proto::mmp::algorithms::OwdTrendDetector;
@@ -16,7 +16,7 @@ fn new(capacity: u64) -> Case {
 }
 
 /// The commit's window is empty after it, whatever it was.
-fn clear(r: &Ring) -> Case {
+pub fn clear(r: &Ring) -> Case {
     let answer = asked(first_no(&[(1, r.keeps())]), &r.state(), || {
         let mut c = owd(r.capacity, VecDeque::from(vec![(1, 2)]));
         c.clear();
@@ -26,14 +26,14 @@ fn clear(r: &Ring) -> Case {
     Case::new(Numbers::of(&[332]).and(&r.state()), answer)
 }
 
-fn push(r: &Ring, at_ms: u32, owd_us: i64) -> Case {
+pub fn push(r: &Ring, at_ms: u32, owd_us: i64) -> Case {
     let with_windows = |ring: &Ring| [ring.state().to_vec(), ring.windows()].concat();
     let answer = asked(r.push_refusal(owd_us), &with_windows(r), || with_windows(&r.pushed(at_ms, owd_us)));
     let line = Numbers::of(&[333]).and(&r.state()).and(&[at_ms.into(), owd_us as u64]);
     Case::new(line.and(&r.windows()), answer)
 }
 
-fn trend(r: &Ring) -> Case {
+pub fn trend(r: &Ring) -> Case {
     let answer = asked(r.trend_refusal(), &[0], || vec![pattern(r.commit().trend_us_per_sec())]);
     Case::new(Numbers::of(&[334]).and(&r.state()).and(&r.windows()), answer)
 }
@@ -58,6 +58,8 @@ enum Run {
     OneTime,
     /// Times of any kind, delays out to the bounds.
     Wide,
+    /// Small times, delays out to the bounds: slopes about the ends of i32.
+    Steep,
 }
 
 fn ring(rng: &mut Rng, capacity: usize, count: usize, first: usize, run: &Run) -> Ring {
@@ -75,6 +77,7 @@ fn ring(rng: &mut Rng, capacity: usize, count: usize, first: usize, run: &Run) -
             Run::Small => (rng.below(10) as u32, rng.below(10) as i64),
             Run::OneTime => (start, rng.below(1000) as i64),
             Run::Wide => (rng.number(4) as u32, wide_delay(rng)),
+            Run::Steep => (rng.below(2000) as u32, wide_delay(rng) >> rng.below(42)),
         };
         all.times[slot] = t;
         all.delays[slot] = d;
@@ -111,7 +114,8 @@ fn any_run(rng: &mut Rng) -> Run {
     match rng.below(8) {
         0 => Run::OneTime,
         1 => Run::Small,
-        2..=4 => Run::Wide,
+        2 | 3 => Run::Wide,
+        4 => Run::Steep,
         _ => Run::Link,
     }
 }
@@ -225,10 +229,10 @@ pub fn any_ring(rng: &mut Rng) -> Ring {
 }
 
 /// A ring with something about it that may be refused.
-fn spoilt(rng: &mut Rng) -> Ring {
+pub fn spoilt(rng: &mut Rng) -> Ring {
     let mut r = any_ring(rng);
     let slot = rng.below(r.capacity);
-    match rng.below(6) {
+    match rng.below(8) {
         0 => r.delays[slot] = near(rng, MAX_US).wrapping_neg(),
         1 => r.delays[slot] = rng.draw() as i64,
         2 => {
@@ -236,23 +240,35 @@ fn spoilt(rng: &mut Rng) -> Ring {
         }
         3 => r.delays.push(1),
         4 => r.count = rng.number(8) as usize,
-        _ => r.first = rng.number(8) as usize,
+        5 => r.first = rng.number(8) as usize,
+        6 => r.count = beside(rng, r.capacity as u64) as usize,
+        _ => r.first = beside(rng, r.capacity as u64) as usize,
     }
     r
 }
 
-pub fn random_case(rng: &mut Rng) -> Case {
+pub fn random_case(rng: &mut Rng, call: u64) -> Case {
     let r = if rng.below(4) == 0 { spoilt(rng) } else { any_ring(rng) };
-    match rng.below(16) {
-        0 => new(rng.number(8)),
-        1 => clear(&r),
-        2 => keeps_rule(&r),
-        3 => windows_ok(&r, r.capacity as u64, rng.number(2)),
-        4..=7 => {
+    match call {
+        331 => {
+            let end = [2, 4096][rng.below(2)];
+            new(if rng.below(2) == 0 { beside(rng, end) } else { rng.number(8) })
+        }
+        332 => clear(&r),
+        333 => {
             let d = if rng.below(4) == 0 { near(rng, MAX_US) } else { wide_delay(rng) };
             push(&r, rng.number(4) as u32, d)
         }
-        _ => trend(&r),
+        334 => trend(&r),
+        335 => keeps_rule(&r),
+        _ => {
+            let length = |rng: &mut Rng| match rng.below(4) {
+                0 => beside(rng, r.capacity as u64),
+                1 => rng.number(8),
+                _ => r.capacity as u64,
+            };
+            windows_ok(&r, length(rng), length(rng))
+        }
     }
 }
 

@@ -3,8 +3,8 @@
 use std::collections::VecDeque;
 
 use crate::case::{commit, Case, Numbers};
-use crate::figures::{beside, clock, first_no, maybe, near, optional, CLOCKS, MAX_MS};
-use crate::owd_cases::{any_ring, lawless};
+use crate::figures::{about_last_clock, beside, clock, first_no, maybe, near, optional, CLOCKS, MAX_MS};
+use crate::owd_cases::{any_ring, lawless, spoilt};
 use crate::owd_ring::Ring;
 use crate::proto::mmp::algorithms::oracle_access::owd;
 use crate::proto::mmp::receiver::oracle_access::{fields, sample, sample_owd, state, window, Fields};
@@ -33,7 +33,7 @@ fn in_grace(deadline_ms: Option<u64>, now_ms: u64) -> Case {
 }
 
 /// The jitter after a frame. Where the commit's difference does not fit 64 bits, D is reduced before it is scaled; a jitter below 0 counts as 0.
-fn jitter_after(jitter_q4: i64, last_recv_ms: Option<u64>, last: u32, timestamp: u32, now_ms: u64) -> Case {
+pub fn jitter_after(jitter_q4: i64, last_recv_ms: Option<u64>, last: u32, timestamp: u32, now_ms: u64) -> Case {
     let lifted = if last_recv_ms.is_some() { jitter_q4.max(0) } else { jitter_q4 };
     let of = |last_recv_ms: Option<u64>, now_ms| {
         let f = Fields {
@@ -144,16 +144,18 @@ pub fn boundary_cases(rng: &mut Rng) -> Vec<Case> {
         cases.push(jitter_after(jitter_q4, None, 5, 7, 9));
         cases.extend([0, 2_147_483].map(|ms| jitter_after(jitter_q4, Some(0), 5, 5, ms)));
     }
-    for r in lawless() {
-        cases.extend([0, SPAN_MS].map(|now_ms| sample_into(&r, Some((0, 0)), 1, now_ms)));
-    }
     let mut short = any_ring(rng);
     short.times.pop();
-    cases.extend([0, SPAN_MS].map(|now_ms| sample_into(&short, Some((0, 0)), 1, now_ms)));
+    let mut long = any_ring(rng);
+    long.delays.push(1);
+    for r in lawless().into_iter().chain([short, long, any_ring(rng)]) {
+        cases.extend([0, SPAN_MS].map(|now_ms| sample_into(&r, Some((0, 0)), 1, now_ms)));
+        cases.push(sample_into(&r, None, 1, 7));
+    }
     cases
 }
 
-pub fn random_case(rng: &mut Rng) -> Case {
+pub fn random_case(rng: &mut Rng, call: u64) -> Case {
     let timestamp = rng.number(4) as u32;
     let last = match rng.below(3) {
         0 => timestamp.wrapping_add(1 << 31).wrapping_add(rng.below(3) as u32),
@@ -161,20 +163,25 @@ pub fn random_case(rng: &mut Rng) -> Case {
         _ => rng.number(4) as u32,
     };
     let at = maybe(rng, clock);
-    let now_ms = match (at, rng.below(5)) {
+    let now_ms = match (at, rng.below(6)) {
         (Some(ms), 0) => beside(rng, ms),
         (Some(ms), 1) => beside(rng, ms.saturating_add(SPAN_MS)),
         (Some(ms), 2) => beside(rng, ms.saturating_add(65_535)),
         (Some(ms), 3) => ms.saturating_add(rng.below(5000) as u64),
+        (Some(ms), 4) => ms.saturating_add(beside(rng, 2_147_483) * rng.below(4) as u64),
         _ => clock(rng),
     };
     let owd_ref = at.map(|ms| (ms, last));
-    match rng.below(10) {
-        0 => in_grace(at, now_ms),
-        1 => reference_ok(owd_ref),
-        2 => base_of(owd_ref, now_ms, timestamp),
-        3 => echo_of(at, timestamp, now_ms),
-        4..=6 => jitter_after(near(rng, MAX_JITTER), at, last, timestamp, now_ms),
-        _ => sample_into(&any_ring(rng), owd_ref, timestamp, now_ms),
+    match call {
+        461 => in_grace(at, now_ms),
+        462 => jitter_after(near(rng, MAX_JITTER), at, last, timestamp, now_ms),
+        463 if rng.below(2) == 0 => reference_ok(Some((about_last_clock(rng), last))),
+        463 => reference_ok(owd_ref),
+        464 => base_of(owd_ref, now_ms, timestamp),
+        465 => echo_of(at, timestamp, now_ms),
+        _ => {
+            let ring = if rng.below(8) == 0 { spoilt(rng) } else { any_ring(rng) };
+            sample_into(&ring, owd_ref, timestamp, now_ms)
+        }
     }
 }

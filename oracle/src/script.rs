@@ -1,5 +1,6 @@
 //! Scripts made from a seed, and `replay` run on one.
 
+use std::collections::VecDeque;
 use std::io::{self, Read, Write};
 use std::path::Path;
 use std::process::{Command, Stdio};
@@ -7,23 +8,34 @@ use std::thread;
 
 use crate::case::Case;
 use crate::rng::Rng;
+use crate::tables::calls;
 use crate::{algorithms_cases, codec_cases, field_cases, malformed_cases, wire_cases};
 use crate::{figures_cases, metrics_cases, metrics_edges};
 use crate::{gap_cases, link_cases, receiver_cases, receiver_edges, sample_cases, sender_cases};
 
-/// A good line, drawn from every group of calls, most of them on the figures of a link.
-fn random_call(rng: &mut Rng) -> Case {
-    match rng.below(144) {
-        0..=2 => codec_cases::random_case(rng),
-        3 => field_cases::random_case(rng),
-        4..=7 => wire_cases::random_case(rng),
-        8..=15 => algorithms_cases::random_case(rng),
-        16..=19 => sender_cases::random_case(rng),
-        20..=22 => gap_cases::random_case(rng),
-        23..=25 => sample_cases::random_case(rng),
-        26..=31 => receiver_cases::random_case(rng),
-        32..=43 => figures_cases::random_case(rng),
-        _ => metrics_cases::random_case(rng),
+/// Calls that are drawn more often than the others, and how often: a report processed, a frame, a report built, and what they lean on.
+const OFTEN: [(u64, usize); 8] = [(603, 7), (507, 3), (334, 3), (504, 2), (505, 2), (605, 2), (462, 2), (466, 2)];
+
+/// Every call that takes arguments, as often as it is drawn.
+fn pool() -> Vec<u64> {
+    let times = |number| OFTEN.iter().find(|(often, _)| *often == number).map_or(1, |(_, times)| *times);
+    let numbers = calls().iter().filter(|call| !call.arguments.is_empty()).map(|call| call.number);
+    numbers.flat_map(|number| vec![number; times(number)]).collect()
+}
+
+/// A good line of a call.
+fn random_case(rng: &mut Rng, call: u64) -> Case {
+    match call {
+        101..=129 => codec_cases::random_case(rng, call),
+        141..=155 => field_cases::random_case(rng, call),
+        201..=207 => wire_cases::random_case(rng, call),
+        301..=357 => algorithms_cases::random_case(rng, call),
+        401..=417 => sender_cases::random_case(rng, call),
+        451..=458 => gap_cases::random_case(rng, call),
+        461..=466 => sample_cases::random_case(rng, call),
+        501..=518 => receiver_cases::random_case(rng, call),
+        601..=619 => metrics_cases::random_case(rng, call),
+        _ => figures_cases::random_case(rng, call),
     }
 }
 
@@ -39,9 +51,8 @@ fn history(rng: &mut Rng) -> Vec<Case> {
 /// How many histories of a link stand behind the boundaries.
 const LINKS: usize = 4;
 
-/// Every boundary and some histories, then random cases up to n.
-pub fn cases(seed: u64, n: usize) -> Vec<Case> {
-    let rng = &mut Rng::new(seed);
+/// The list that is stored: every boundary, some histories of a link, and every way to be malformed.
+pub fn stored(rng: &mut Rng) -> Vec<Case> {
     let mut cases = codec_cases::boundary_cases(rng);
     cases.extend(field_cases::boundary_cases(rng));
     cases.extend(wire_cases::boundary_cases(rng));
@@ -52,19 +63,50 @@ pub fn cases(seed: u64, n: usize) -> Vec<Case> {
     cases.extend(receiver_edges::boundary_cases());
     cases.extend(metrics_edges::boundary_cases());
     cases.extend(figures_cases::boundary_cases(rng));
-    cases.extend(malformed_cases::boundary_cases());
+    let malformed = malformed_cases::boundary_cases(&cases);
+    cases.extend(malformed);
     (0..LINKS).for_each(|_| cases.extend(link_cases::history(rng)));
-    cases.push(random_call(rng).with_zeros());
-    while cases.len() < n {
-        let call = random_call(rng);
-        match rng.below(200) {
-            0 => cases.extend(history(rng)),
-            1..=6 => cases.push(malformed_cases::random_case(rng, &call)),
-            7..=10 => cases.push(call.with_zeros()),
-            _ => cases.push(call),
+    cases.push(random_case(rng, 603).with_zeros());
+    cases
+}
+
+/// The stored list, then random cases without end: mostly single ones, each call in turn by chance; some histories; some malformed.
+pub struct Script {
+    rng: Rng,
+    pool: Vec<u64>,
+    ready: VecDeque<Case>,
+}
+
+impl Script {
+    pub fn new(seed: u64) -> Self {
+        let mut rng = Rng::new(seed);
+        Self {
+            ready: stored(&mut rng).into(),
+            pool: pool(),
+            rng,
         }
     }
-    cases
+}
+
+impl Iterator for Script {
+    type Item = Case;
+
+    fn next(&mut self) -> Option<Case> {
+        while self.ready.is_empty() {
+            let rng = &mut self.rng;
+            let call = self.pool[rng.below(self.pool.len())];
+            match rng.below(600) {
+                0 => self.ready.extend(history(rng)),
+                1..=12 => {
+                    let good = random_case(rng, call);
+                    self.ready.push_back(malformed_cases::random_case(rng, &good));
+                }
+                13..=20 => self.ready.push_back(random_case(rng, call).with_zeros()),
+                _ => self.ready.push_back(random_case(rng, call)),
+            }
+        }
+        self.ready.pop_front()
+    }
 }
 
 /// The script: no line feed ends the last line.

@@ -1,7 +1,9 @@
 //! Calls 401 to 417: `SenderState`.
 
 use crate::case::{Case, Numbers};
-use crate::figures::{about, beside, bounds, clock, clock_within, maybe, smoothed, CLOCKS, MAX_FRAME, MAX_MS, MAX_US};
+use crate::figures::{
+    about, about_last_clock, any_bounds, beside, clock, clock_within, maybe, smoothed, CLOCKS, MAX_FRAME, MAX_MS, MAX_US,
+};
 use crate::proto::mmp::sender::oracle_access::{state, Fields};
 use crate::proto::mmp::sender::SenderState;
 use crate::rng::Rng;
@@ -13,7 +15,7 @@ fn new(call: u64) -> Case {
 }
 
 /// A refused constructor, given no state, answers the default one.
-fn new_with_cold_start(cold_start_ms: u64) -> Case {
+pub fn new_with_cold_start(cold_start_ms: u64) -> Case {
     let good = cold_start_ms <= MAX_MS;
     let s = if good {
         SenderState::new_with_cold_start(cold_start_ms)
@@ -225,7 +227,10 @@ fn any_sender(rng: &mut Rng) -> Sender {
     } else {
         rng.below(9000) as u64
     };
-    fields.consecutive_send_failures = few(rng);
+    fields.consecutive_send_failures = match rng.below(12) {
+        0 => u32::MAX - rng.below(2) as u32,
+        _ => few(rng),
+    };
     fields.srtt_sample_count = few(rng);
     Sender { fields, no_report_ms: 0 }
 }
@@ -233,8 +238,8 @@ fn any_sender(rng: &mut Rng) -> Sender {
 /// Breaks one clause of the rule, or not quite.
 fn spoil(rng: &mut Rng, s: &mut Sender) {
     match rng.below(3) {
-        0 => s.fields.last_report_ms = Some(clock(rng)),
-        1 => s.fields.report_interval_ms = clock(rng),
+        0 => s.fields.last_report_ms = Some(about_last_clock(rng)),
+        1 => s.fields.report_interval_ms = about_last_clock(rng),
         _ => {
             s.fields.last_report_ms = None;
             s.no_report_ms = rng.below(2) as u64;
@@ -256,25 +261,18 @@ pub fn due(rng: &mut Rng, s: &Sender) -> u64 {
     }
 }
 
-pub fn random_case(rng: &mut Rng) -> Case {
-    match rng.below(40) {
-        0 => return new_with_cold_start(clock(rng)),
-        1 => return backoff_of(rng.number(4) as u32),
+pub fn random_case(rng: &mut Rng, number: u64) -> Case {
+    match number {
+        403 => return new_with_cold_start(clock(rng)),
+        417 => return backoff_of(few(rng)),
         _ => {}
     }
     let mut s = any_sender(rng);
     if rng.below(8) == 0 {
         spoil(rng, &mut s);
     }
-    let call = match rng.below(8) {
-        0 => Call::FromSrtt(smoothed(rng)),
-        1 => {
-            let (min_ms, max_ms) = bounds(rng);
-            Call::WithBounds(smoothed(rng), min_ms, max_ms)
-        }
-        2 => Call::BuildReport(clock(rng)),
-        3 => Call::ShouldSend(due(rng, &s)),
-        4 | 5 => {
+    let call = match number {
+        404 => {
             let room = u64::MAX - s.fields.cumulative_bytes_sent;
             Call::RecordSent {
                 counter: rng.number(8),
@@ -286,7 +284,14 @@ pub fn random_case(rng: &mut Rng) -> Case {
                 },
             }
         }
-        _ => PLAIN[rng.below(PLAIN.len())],
+        405 => Call::BuildReport(clock(rng)),
+        406 => Call::ShouldSend(due(rng, &s)),
+        410 => Call::FromSrtt(smoothed(rng)),
+        411 => {
+            let (min_ms, max_ms) = any_bounds(rng);
+            Call::WithBounds(smoothed(rng), min_ms, max_ms)
+        }
+        _ => *PLAIN.iter().find(|call| call.number() == number).expect("a call of the sender"),
     };
     s.call(call).0
 }

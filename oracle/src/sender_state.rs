@@ -44,7 +44,7 @@ pub const PLAIN: [Call; 8] = [
 ];
 
 impl Call {
-    fn number(self) -> u64 {
+    pub fn number(self) -> u64 {
         match self {
             Call::RecordSent { .. } => 404,
             Call::BuildReport(_) => 405,
@@ -87,7 +87,7 @@ impl Call {
     }
 
     /// What the commit answers beside the state.
-    fn run(self, s: &mut SenderState) -> Vec<u64> {
+    pub fn run(self, s: &mut SenderState) -> Vec<u64> {
         match self {
             Call::RecordSent { counter, timestamp, bytes } => {
                 s.record_sent(counter, timestamp, bytes as usize);

@@ -1,13 +1,13 @@
 //! Calls 351 to 357: `SpinBitState`.
 
 use crate::case::{Case, Numbers};
-use crate::figures::{asked, clock, first_no, optional, CLOCKS, MAX_MS};
+use crate::figures::{asked, beside, clock, first_no, optional, CLOCKS, MAX_MS};
 use crate::proto::mmp::algorithms::oracle_access::{spin, spin_fields};
 use crate::proto::mmp::algorithms::SpinBitState;
 use crate::rng::Rng;
 
 #[derive(Clone, Copy)]
-struct State {
+pub struct State {
     is_initiator: bool,
     current_value: bool,
     highest_counter_for_spin: u64,
@@ -54,6 +54,14 @@ impl State {
     }
 }
 
+/// A new initiator, but for its last edge.
+pub fn initiator(last_edge_ms: Option<u64>) -> State {
+    State {
+        last_edge_ms,
+        ..read(&SpinBitState::new(true))
+    }
+}
+
 fn new(is_initiator: bool) -> Case {
     let answer = Numbers::of(&read(&SpinBitState::new(is_initiator)).numbers());
     Case::new(Numbers::of(&[351, is_initiator.into()]), (answer, false))
@@ -93,7 +101,7 @@ fn line(call: u64, s: State, bit: bool, counter: u64, now_ms: u64) -> Numbers {
     Numbers::of(&[call]).and(&s.numbers()).and(&[bit.into(), counter, now_ms])
 }
 
-fn rx_observe(s: State, bit: bool, counter: u64, now_ms: u64) -> Case {
+pub fn rx_observe(s: State, bit: bool, counter: u64, now_ms: u64) -> Case {
     let mut refused = vec![0, 0];
     refused.extend(s.numbers());
     let answer = asked(s.refusal(now_ms), &refused, || observed(s, bit, counter, now_ms).0);
@@ -142,7 +150,7 @@ pub fn boundary_cases() -> Vec<Case> {
     cases
 }
 
-pub fn random_case(rng: &mut Rng) -> Case {
+pub fn random_case(rng: &mut Rng, call: u64) -> Case {
     let s = State {
         is_initiator: rng.below(2) == 0,
         current_value: rng.below(2) == 0,
@@ -154,13 +162,18 @@ pub fn random_case(rng: &mut Rng) -> Case {
         0 => s.highest_counter_for_spin.wrapping_add(rng.below(3) as u64).wrapping_sub(1),
         _ => rng.number(8),
     };
-    match rng.below(10) {
-        0 => restart(s),
-        1 => accessor(353, s),
-        2 => accessor(354, s),
-        3 => keeps_rule(s),
-        4 => observe(s, bit, counter, rng.number(8)),
-        _ => rx_observe(s, bit, counter, clock(rng)),
+    let now_ms = match (s.last_edge_ms, rng.below(3)) {
+        (Some(ms), 0) => beside(rng, ms),
+        (Some(ms), 1) => ms.saturating_add(rng.below(3000) as u64),
+        _ => clock(rng),
+    };
+    match call {
+        351 => new(bit),
+        352 => restart(s),
+        353 | 354 => accessor(call, s),
+        355 => rx_observe(s, bit, counter, now_ms),
+        356 => keeps_rule(s),
+        _ => observe(s, bit, counter, if rng.below(2) == 0 { now_ms } else { rng.number(8) }),
     }
 }
 

@@ -34,7 +34,7 @@ impl State {
         srtt(self.srtt_us, self.rttvar_us, self.initialized)
     }
 
-    fn stepped(self, rtt_us: i64) -> State {
+    pub fn stepped(self, rtt_us: i64) -> State {
         let mut s = self.commit();
         s.update(rtt_us);
         read(&s)
@@ -43,6 +43,10 @@ impl State {
     fn refusal(self, rtt_us: i64) -> u64 {
         first_no(&[(1, self.keeps()), (8, (0..=MAX_US).contains(&rtt_us))])
     }
+}
+
+pub fn new_state() -> State {
+    read(&SrttEstimator::new())
 }
 
 fn new(call: u64) -> Case {
@@ -54,12 +58,12 @@ fn new(call: u64) -> Case {
     Case::new(Numbers::of(&[call]), (Numbers::of(&read(&s).numbers()), false))
 }
 
-fn update(s: State, rtt_us: i64) -> Case {
+pub fn update(s: State, rtt_us: i64) -> Case {
     let answer = asked(s.refusal(rtt_us), &s.numbers(), || s.stepped(rtt_us).numbers().to_vec());
     Case::new(Numbers::of(&[313]).and(&s.numbers()).and(&[rtt_us as u64]), answer)
 }
 
-fn accessor(call: u64, s: State) -> Case {
+pub fn accessor(call: u64, s: State) -> Case {
     let answer = asked(first_no(&[(1, s.keeps())]), &[0], || {
         let c = s.commit();
         vec![match call {
@@ -76,7 +80,7 @@ fn keeps_rule(s: State) -> Case {
 }
 
 /// The step of any state: a time below 0, which no rule allows, counts as 0.
-fn step(s: State, rtt_us: i64) -> Case {
+pub fn step(s: State, rtt_us: i64) -> Case {
     let lifted = State {
         srtt_us: s.srtt_us.max(0),
         rttvar_us: s.rttvar_us.max(0),
@@ -126,26 +130,28 @@ pub fn boundary_cases() -> Vec<Case> {
     cases
 }
 
-pub fn random_case(rng: &mut Rng) -> Case {
+pub fn random_case(rng: &mut Rng, call: u64) -> Case {
     let s = State {
         srtt_us: near(rng, MAX_US),
         rttvar_us: near(rng, MAX_US),
         initialized: rng.below(4) > 0,
     };
-    let rtt_us = near(rng, MAX_US);
-    match rng.below(9) {
-        0 => keeps_rule(s),
-        1 => step(s, rtt_us),
-        2 => accessor(314, s),
-        3 => accessor(315, s),
-        4 => accessor(316, s),
-        _ => update(s, rtt_us),
+    let rtt_us = match rng.below(4) {
+        0 => s.srtt_us.saturating_add(rng.below(33) as i64 - 16),
+        1 => 1000 * rng.number(4) as i64,
+        _ => near(rng, MAX_US),
+    };
+    match call {
+        313 => update(s, rtt_us),
+        317 => keeps_rule(s),
+        318 => step(s, rtt_us),
+        _ => accessor(call, s),
     }
 }
 
 /// Updates, each on what the last one left.
 pub fn history(rng: &mut Rng) -> Vec<Case> {
-    let mut s = read(&SrttEstimator::new());
+    let mut s = new_state();
     let mut cases = vec![];
     let still = near(rng, MAX_US);
     for _ in 0..rng.below(60) {

@@ -2,7 +2,6 @@
 use crate::ewma_calls::and_trends;
 use crate::ewma_calls::trends_of;
 use crate::reply::Reply;
-use crate::reply::of_bool;
 use crate::reply::of_f64;
 use crate::reply::of_optional_f64;
 use crate::reply::of_optional_u32;
