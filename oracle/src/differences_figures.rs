@@ -4,7 +4,7 @@ use std::collections::VecDeque;
 
 use crate::differences::Points;
 use crate::figures::{MAX_MS, MAX_TREND, MAX_US};
-use crate::owd_cases::{clear, push, ring_of, trend};
+use crate::owd_cases::{clear, push, ring_of, ring_with, trend};
 use crate::owd_ring::Ring;
 use crate::proto::codec::oracle_access::{reader, writer};
 use crate::proto::codec::Writer;
@@ -193,14 +193,14 @@ fn averages(points: &mut Points) {
 
 /// The delay window and the spin bit.
 fn delays(points: &mut Points) {
-    let pairs = |ring: &Ring| (0..ring.count).map(|k| (ring.times[k], ring.delays[k])).collect::<VecDeque<_>>();
-    let mut one = ring_of(1);
-    one.count = 1;
-    let mut three = ring_of(2);
-    (three.count, three.times, three.delays) = (3, vec![0; 3], vec![0; 3]);
+    let one = ring_with(&[(0, 0)]);
+    let three = Ring {
+        capacity: 2,
+        ..ring_with(&[(0, 0); 3])
+    };
     for (ring, input) in [(&one, "capacity 1, one pair"), (&three, "capacity 2, three pairs")] {
         let grown = || {
-            let mut c = owd(ring.capacity, pairs(ring));
+            let mut c = owd(ring.capacity, vec![(0, 0); ring.count].into());
             c.push(1, 0);
             format!("pairs: {}", owd_window(&c).1.len())
         };
@@ -210,7 +210,7 @@ fn delays(points: &mut Points) {
         "`OwdTrendDetector::clear`",
         "capacity 1, one pair",
         || {
-            let mut c = owd(1, pairs(&one));
+            let mut c = one.commit();
             c.clear();
             format!("pairs: {}", owd_window(&c).1.len())
         },
@@ -226,12 +226,11 @@ fn delays(points: &mut Points) {
         },
         || push(&ring_of(2), 0, MAX_US + 1),
     );
-    let mut far = ring_of(2);
-    (far.count, far.times, far.delays) = (2, vec![0, 1], vec![0, MAX_US + 1]);
+    let far = ring_with(&[(0, 0), (1, MAX_US + 1)]);
     points.row(
         "`OwdTrendDetector::trend_us_per_sec`",
         "pairs (0 ms, 0 µs) and (1, 2^42 + 1)",
-        || owd(2, pairs(&far)).trend_us_per_sec().to_string(),
+        || far.commit().trend_us_per_sec().to_string(),
         || trend(&far),
     );
     for (edge, now_ms, input) in [

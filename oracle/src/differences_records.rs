@@ -8,7 +8,7 @@ use crate::figures::{MAX_FRAME, MAX_MS, MAX_US};
 use crate::gap_cases::{finish, observed};
 use crate::metrics_call::Call as OnMetrics;
 use crate::metrics_state::Metrics;
-use crate::owd_cases::ring_of;
+use crate::owd_cases::{ring_of, ring_with};
 use crate::proto::mmp::algorithms::oracle_access::owd;
 use crate::proto::mmp::metrics::oracle_access as metrics_access;
 use crate::proto::mmp::metrics::MmpMetrics;
@@ -243,7 +243,7 @@ fn receiver(points: &mut Points) {
     let data = with(&|r| r.fields.interval_has_data = true);
     let far = with(&|r| {
         r.fields.interval_has_data = true;
-        (r.ring.count, r.ring.times, r.ring.delays) = (2, vec![0, 1], vec![0, MAX_US + 1]);
+        r.ring = ring_with(&[(0, 0), (1, MAX_US + 1)]);
     });
     let mut on = |name: &str, input: &str, r: &Receiver, call, tell: &Tells| on_receiver(points, name, input, r, call, tell);
     let name = "`ReceiverState::record_frame`, `record_recv`";

@@ -8,7 +8,7 @@ use crate::jitter_cases;
 use crate::link_cases::report_built;
 use crate::metrics_call;
 use crate::metrics_state::Metrics;
-use crate::owd_cases::ring_of;
+use crate::owd_cases::{ring_of, ring_with, trend};
 use crate::proto::mmp::metrics::MmpMetrics;
 use crate::proto::mmp::receiver::ReceiverState;
 use crate::proto::mmp::wire::ReceiverReport;
@@ -22,6 +22,7 @@ pub fn rows(points: &mut Points) {
     measured(points);
     jitter_alone(points);
     heard(points);
+    sloped(points);
 }
 
 /// A number over 2^24. That nothing is cut off is asserted.
@@ -190,6 +191,21 @@ fn jitter_alone(points: &mut Points) {
 
 fn jitter_told(q4: i64) -> String {
     format!("J {}, scaled {q4}", q4 >> 4)
+}
+
+/// The slope of the line through two pairs, in µs per second.
+fn sloped(points: &mut Points) {
+    let (ms, us) = (1000, 1001);
+    let ring = ring_with(&[(0, 0), (ms, us)]);
+    let exact = Exact::of(1000 * us).parts(1, ms.into()).to_string();
+    let answered = ring.commit().trend_us_per_sec().to_string();
+    points.parted(
+        "the trend, cut toward zero",
+        "pairs (0 ms, 0 µs) and (1000, 1001)",
+        exact,
+        answered,
+        vec![trend(&ring)],
+    );
 }
 
 /// Frames to a new state, after a rekey or not: timestamp, clock and whether the frame is sampled.

@@ -60,11 +60,18 @@ enum Run {
     Wide,
     /// Small times, delays out to the bounds: slopes about the ends of i32.
     Steep,
+    /// Times close together at the end of the word, delays at a bound: the means' roundings show.
+    Late,
+    /// Times at equal steps, delays on a line: the slope's roundings show.
+    Straight,
+    /// Few times, wide delays whose products cancel: the roundings of the products and of their sum show.
+    Level,
 }
 
 fn ring(rng: &mut Rng, capacity: usize, count: usize, first: usize, run: &Run) -> Ring {
     let slope = rng.below(4001) as i64 - 2000;
     let start = rng.number(4) as u32 / 2;
+    let step = [1, 10, 100, 1000][rng.below(4)];
     let mut all = Ring {
         count,
         first,
@@ -78,11 +85,34 @@ fn ring(rng: &mut Rng, capacity: usize, count: usize, first: usize, run: &Run) -
             Run::OneTime => (start, rng.below(1000) as i64),
             Run::Wide => (rng.number(4) as u32, wide_delay(rng)),
             Run::Steep => (rng.below(2000) as u32, wide_delay(rng) >> rng.below(42)),
+            Run::Late => (
+                u32::MAX - 3 * (capacity - k) as u32 + rng.below(3) as u32,
+                MAX_US - rng.below(1000) as i64,
+            ),
+            Run::Straight => (step * k as u32, slope * k as i64),
+            Run::Level => (rng.below(3) as u32, wide_delay(rng) / 4),
         };
         all.times[slot] = t;
         all.delays[slot] = d;
     }
+    if let Run::Level = run {
+        level(rng, &mut all);
+    }
     all
+}
+
+/// Moves one live delay so that the slope is about 0.
+fn level(rng: &mut Rng, ring: &mut Ring) {
+    let slots: Vec<usize> = (0..ring.count).map(|k| (ring.first + k) % ring.capacity).collect();
+    let sum: i128 = slots.iter().map(|slot| i128::from(ring.times[*slot])).sum();
+    let lever = |slot: usize| ring.count as i128 * i128::from(ring.times[slot]) - sum;
+    let Some(moved) = slots.iter().copied().find(|slot| lever(*slot) != 0) else {
+        return;
+    };
+    let product = |slot: &usize| lever(*slot) * i128::from(ring.delays[*slot]);
+    let others: i128 = slots.iter().filter(|slot| **slot != moved).map(product).sum();
+    let delay = -others / lever(moved) + rng.below(2001) as i128 - 1000;
+    ring.delays[moved] = delay.clamp(-i128::from(MAX_US), MAX_US.into()) as i64;
 }
 
 /// An empty ring with windows of zeros.
@@ -93,6 +123,17 @@ pub fn ring_of(capacity: usize) -> Ring {
         first: 0,
         times: vec![0; capacity],
         delays: vec![0; capacity],
+    }
+}
+
+/// A full ring of these pairs.
+pub fn ring_with(pairs: &[(u32, i64)]) -> Ring {
+    Ring {
+        capacity: pairs.len(),
+        count: pairs.len(),
+        first: 0,
+        times: pairs.iter().map(|(t, _)| *t).collect(),
+        delays: pairs.iter().map(|(_, d)| *d).collect(),
     }
 }
 
@@ -111,11 +152,14 @@ fn wide_delay(rng: &mut Rng) -> i64 {
 }
 
 fn any_run(rng: &mut Rng) -> Run {
-    match rng.below(8) {
+    match rng.below(10) {
         0 => Run::OneTime,
         1 => Run::Small,
         2 | 3 => Run::Wide,
         4 => Run::Steep,
+        5 => Run::Late,
+        6 => Run::Straight,
+        7 => Run::Level,
         _ => Run::Link,
     }
 }
@@ -165,6 +209,14 @@ pub fn boundary_cases(rng: &mut Rng) -> Vec<Case> {
         }
     }
     cases.extend(about_samples(rng));
+    for capacity in [2, 3, 5, 8, 13] {
+        for run in [Run::Steep, Run::Late, Run::Straight, Run::Level, Run::Level] {
+            (0..10).for_each(|_| cases.push(trend(&ring(rng, capacity, capacity, 1, &run))));
+        }
+    }
+    for us in 1000..1025 {
+        cases.extend([us, -us].map(|us| trend(&ring_with(&[(0, 0), (1000, us)]))));
+    }
     let r = ring(rng, 4, 2, 3, &Run::Small);
     for (times, delays) in [(4, 4), (3, 4), (4, 5), (0, 0), (u64::MAX, 4)] {
         cases.push(windows_ok(&r, times, delays));
