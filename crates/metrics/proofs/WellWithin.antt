@@ -31,12 +31,12 @@ use Rattle.metrics.specs.declared.MmpMetrics.{MmpMetrics}
 both : (a b : Bool) → (a && b) ≡ true → (a ≡ true) × (b ≡ true)
 both a b h = and-eq-true-iff a b .0 h
 
--- ---- five floats and a sixth: their sum, and the least of the six
+-- ---- five floats: their sum, and the least of them
 abbrev sum : Float → Float → Float → Float → Float → Float
 sum a b c d e = add binary64 (add binary64 (add binary64 (add binary64 a b) c) d) e
 
-abbrev least : Float → Float → Float → Float → Float → Float → Float
-least a b c d e g = lesser (lesser (lesser (lesser (lesser a b) c) d) e) g
+abbrev least : Float → Float → Float → Float → Float → Float
+least a b c d e = lesser (lesser (lesser (lesser a b) c) d) e
 
 abbrev Number : Float → Type 0
 Number x = T (not (isNan x))
@@ -64,7 +64,7 @@ module _ (a b c d e : Float) where
       let s = addends-numbers binary64 a b (r .0) in
       record { first = s .0; second = s .1; third = r .1; fourth = q .1; fifth = p .1 }
 
-  module _ (g : Float) (n : Five Number a b c d e) (o : Number g) where
+  module _ (n : Five Number a b c d e) where
     two : Number (lesser a b)
     two = lesser-number a b (n .first) (n .second)
 
@@ -74,20 +74,16 @@ module _ (a b c d e : Float) where
     four : Number (lesser (lesser (lesser a b) c) d)
     four = lesser-number (lesser (lesser a b) c) d three (n .fourth)
 
-    five : Number (lesser (lesser (lesser (lesser a b) c) d) e)
-    five = lesser-number (lesser (lesser (lesser a b) c) d) e four (n .fifth)
+    least-number : Number (least a b c d e)
+    least-number = lesser-number (lesser (lesser (lesser a b) c) d) e four (n .fifth)
 
-    least-number : Number (least a b c d e g)
-    least-number = lesser-number (lesser (lesser (lesser (lesser a b) c) d) e) g five o
-
-    low : NotNegative (least a b c d e g) → Five NotNegative a b c d e × NotNegative g
+    low : NotNegative (least a b c d e) → Five NotNegative a b c d e
     low h =
-        let p = lesser-not-negative (lesser (lesser (lesser (lesser a b) c) d) e) g five o h in
-        let q = lesser-not-negative (lesser (lesser (lesser a b) c) d) e four (n .fifth) (p .0) in
-        let r = lesser-not-negative (lesser (lesser a b) c) d three (n .fourth) (q .0) in
-        let s = lesser-not-negative (lesser a b) c two (n .third) (r .0) in
-        let t = lesser-not-negative a b (n .first) (n .second) (s .0) in
-        (record { first = t .0; second = t .1; third = s .1; fourth = r .1; fifth = q .1 }, p .1)
+        let p = lesser-not-negative (lesser (lesser (lesser a b) c) d) e four (n .fifth) h in
+        let q = lesser-not-negative (lesser (lesser a b) c) d three (n .fourth) (p .0) in
+        let r = lesser-not-negative (lesser a b) c two (n .third) (q .0) in
+        let s = lesser-not-negative a b (n .first) (n .second) (r .0) in
+        record { first = s .0; second = s .1; third = r .1; fourth = q .1; fifth = p .1 }
 
   module _ (f : Five Fit a b c d e) (n : Five NotNegative a b c d e) where
     two-low : NotNegative (add binary64 a b)
@@ -132,72 +128,75 @@ module _ (m : MmpMetrics) where
   total = add binary64 (add binary64 shorts longs) (m .«goodput_bps»)
 
   abbrev least-short : Float
-  least-short = least (m .«rtt_trend» .short) (m .«loss_trend» .short) (m .«goodput_trend» .short) (m .«jitter_trend» .short) (m .«etx_trend» .short) (m .«delivery_ratio_forward»)
+  least-short = least (m .«rtt_trend» .short) (m .«loss_trend» .short) (m .«goodput_trend» .short) (m .«jitter_trend» .short) (m .«etx_trend» .short)
 
   abbrev least-long : Float
-  least-long = least (m .«rtt_trend» .long) (m .«loss_trend» .long) (m .«goodput_trend» .long) (m .«jitter_trend» .long) (m .«etx_trend» .long) (m .«delivery_ratio_reverse»)
+  least-long = least (m .«rtt_trend» .long) (m .«loss_trend» .long) (m .«goodput_trend» .long) (m .«jitter_trend» .long) (m .«etx_trend» .long)
 
   abbrev lowest : Float
-  lowest = lesser (lesser least-short least-long) (m .«goodput_bps»)
+  lowest = least least-short least-long (m .«delivery_ratio_forward») (m .«delivery_ratio_reverse») (m .«goodput_bps»)
 
   within : (lo hi x : Float) → T (le lo x) → T (le x hi) → inRange lo hi x ≡ true
   within lo hi x l h = within→in-range lo hi x (record { low = l; high = h })
 
   pub floats-near : Fits m
-      → (le total maxTrend && le zero-float lowest && le (m .«delivery_ratio_forward») one-float && le (m .«delivery_ratio_reverse») one-float && le one-float (m .etx) && lt (m .etx) maxEtx) ≡ true
+      → le one-float (m .etx) ≡ true
+      → le zero-float lowest ≡ true
+      → le total maxTrend ≡ true
+      → le (m .«delivery_ratio_forward») one-float ≡ true
+      → le (m .«delivery_ratio_reverse») one-float ≡ true
+      → lt (m .etx) maxEtx ≡ true
       → (trendsOk m ≡ true) × (ratiosOk m ≡ true)
   unfolding trendsOk ratiosOk ewma.keepsRule le
-  floats-near f h =
+  floats-near f above not-negative sum-within forward reverse below =
       let fwd = m .«delivery_ratio_forward» in
       let rev = m .«delivery_ratio_reverse» in
       let rate = m .«goodput_bps» in
-      let e = both (le total maxTrend && le zero-float lowest && le fwd one-float && le rev one-float && le one-float (m .etx)) (lt (m .etx) maxEtx) h in
-      let d = both (le total maxTrend && le zero-float lowest && le fwd one-float && le rev one-float) (le one-float (m .etx)) (e .0) in
-      let c = both (le total maxTrend && le zero-float lowest && le fwd one-float) (le rev one-float) (d .0) in
-      let b = both (le total maxTrend && le zero-float lowest) (le fwd one-float) (c .0) in
-      let a = both (le total maxTrend) (le zero-float lowest) (b .0) in
-      let most = passed (a .0) in
+      let most = passed sum-within in
       let numbered = addends-numbers binary64 (add binary64 shorts longs) rate (compared total maxTrend most .0) in
       let sums = addends-numbers binary64 shorts longs (numbered .0) in
       let ns = numbers (m .«rtt_trend» .short) (m .«loss_trend» .short) (m .«goodput_trend» .short) (m .«jitter_trend» .short) (m .«etx_trend» .short) (sums .0) in
       let nl = numbers (m .«rtt_trend» .long) (m .«loss_trend» .long) (m .«goodput_trend» .long) (m .«jitter_trend» .long) (m .«etx_trend» .long) (sums .1) in
-      let nf = compared fwd one-float (passed (b .1)) .0 in
-      let nr = compared rev one-float (passed (c .1)) .0 in
-      let ls = least-number (m .«rtt_trend» .short) (m .«loss_trend» .short) (m .«goodput_trend» .short) (m .«jitter_trend» .short) (m .«etx_trend» .short) fwd ns nf in
-      let ll = least-number (m .«rtt_trend» .long) (m .«loss_trend» .long) (m .«goodput_trend» .long) (m .«jitter_trend» .long) (m .«etx_trend» .long) rev nl nr in
-      let lows = lesser-not-negative (lesser least-short least-long) rate (lesser-number least-short least-long ls ll) (numbered .1) (passed (a .1)) in
-      let lanes = lesser-not-negative least-short least-long ls ll (lows .0) in
-      let zs = low (m .«rtt_trend» .short) (m .«loss_trend» .short) (m .«goodput_trend» .short) (m .«jitter_trend» .short) (m .«etx_trend» .short) fwd ns nf (lanes .0) in
-      let zl = low (m .«rtt_trend» .long) (m .«loss_trend» .long) (m .«goodput_trend» .long) (m .«jitter_trend» .long) (m .«etx_trend» .long) rev nl nr (lanes .1) in
+      let ends : Five Number least-short least-long fwd rev rate =
+      record {
+        first = least-number (m .«rtt_trend» .short) (m .«loss_trend» .short) (m .«goodput_trend» .short) (m .«jitter_trend» .short) (m .«etx_trend» .short) ns;
+        second = least-number (m .«rtt_trend» .long) (m .«loss_trend» .long) (m .«goodput_trend» .long) (m .«jitter_trend» .long) (m .«etx_trend» .long) nl;
+        third = compared fwd one-float (passed forward) .0;
+        fourth = compared rev one-float (passed reverse) .0;
+        fifth = numbered .1;
+      } in
+      let z = low least-short least-long fwd rev rate ends (passed not-negative) in
+      let zs = low (m .«rtt_trend» .short) (m .«loss_trend» .short) (m .«goodput_trend» .short) (m .«jitter_trend» .short) (m .«etx_trend» .short) ns (z .first) in
+      let zl = low (m .«rtt_trend» .long) (m .«loss_trend» .long) (m .«goodput_trend» .long) (m .«jitter_trend» .long) (m .«etx_trend» .long) nl (z .second) in
       let fs : Five Fit (m .«rtt_trend» .short) (m .«loss_trend» .short) (m .«goodput_trend» .short) (m .«jitter_trend» .short) (m .«etx_trend» .short) =
       record { first = f .rtt .short; second = f .loss .short; third = f .goodput .short; fourth = f .jitter .short; fifth = f .etx .short } in
       let fl : Five Fit (m .«rtt_trend» .long) (m .«loss_trend» .long) (m .«goodput_trend» .long) (m .«jitter_trend» .long) (m .«etx_trend» .long) =
       record { first = f .rtt .long; second = f .loss .long; third = f .goodput .long; fourth = f .jitter .long; fifth = f .etx .long } in
-      let s0 = sum-low (m .«rtt_trend» .short) (m .«loss_trend» .short) (m .«goodput_trend» .short) (m .«jitter_trend» .short) (m .«etx_trend» .short) fs (zs .0) in
-      let l0 = sum-low (m .«rtt_trend» .long) (m .«loss_trend» .long) (m .«goodput_trend» .long) (m .«jitter_trend» .long) (m .«etx_trend» .long) fl (zl .0) in
+      let s0 = sum-low (m .«rtt_trend» .short) (m .«loss_trend» .short) (m .«goodput_trend» .short) (m .«jitter_trend» .short) (m .«etx_trend» .short) fs zs in
+      let l0 = sum-low (m .«rtt_trend» .long) (m .«loss_trend» .long) (m .«goodput_trend» .long) (m .«jitter_trend» .long) (m .«etx_trend» .long) fl zl in
       let fit-s : Fit shorts = add-fits binary64 _ _ in
       let fit-l : Fit longs = add-fits binary64 _ _ in
-      let t = addends-within binary64 (add binary64 shorts longs) rate maxTrend (add-fits binary64 shorts longs) (f .rate) (sum-not-negative binary64 shorts longs fit-s fit-l s0 l0) (lows .1) most in
+      let t = addends-within binary64 (add binary64 shorts longs) rate maxTrend (add-fits binary64 shorts longs) (f .rate) (sum-not-negative binary64 shorts longs fit-s fit-l s0 l0) (z .fifth) most in
       let u = addends-within binary64 shorts longs maxTrend fit-s fit-l s0 l0 (t .0) in
-      let hs = high (m .«rtt_trend» .short) (m .«loss_trend» .short) (m .«goodput_trend» .short) (m .«jitter_trend» .short) (m .«etx_trend» .short) fs (zs .0) maxTrend (u .0) in
-      let hl = high (m .«rtt_trend» .long) (m .«loss_trend» .long) (m .«goodput_trend» .long) (m .«jitter_trend» .long) (m .«etx_trend» .long) fl (zl .0) maxTrend (u .1) in (
+      let hs = high (m .«rtt_trend» .short) (m .«loss_trend» .short) (m .«goodput_trend» .short) (m .«jitter_trend» .short) (m .«etx_trend» .short) fs zs maxTrend (u .0) in
+      let hl = high (m .«rtt_trend» .long) (m .«loss_trend» .long) (m .«goodput_trend» .long) (m .«jitter_trend» .long) (m .«etx_trend» .long) fl zl maxTrend (u .1) in (
         rw (
-          within zero-float maxTrend (m .«rtt_trend» .short) (zs .0 .first) (hs .first),
-          within zero-float maxTrend (m .«rtt_trend» .long) (zl .0 .first) (hl .first),
-          within zero-float maxTrend (m .«loss_trend» .short) (zs .0 .second) (hs .second),
-          within zero-float maxTrend (m .«loss_trend» .long) (zl .0 .second) (hl .second),
-          within zero-float maxTrend (m .«goodput_trend» .short) (zs .0 .third) (hs .third),
-          within zero-float maxTrend (m .«goodput_trend» .long) (zl .0 .third) (hl .third),
-          within zero-float maxTrend (m .«jitter_trend» .short) (zs .0 .fourth) (hs .fourth),
-          within zero-float maxTrend (m .«jitter_trend» .long) (zl .0 .fourth) (hl .fourth),
-          within zero-float maxTrend (m .«etx_trend» .short) (zs .0 .fifth) (hs .fifth),
-          within zero-float maxTrend (m .«etx_trend» .long) (zl .0 .fifth) (hl .fifth),
+          within zero-float maxTrend (m .«rtt_trend» .short) (zs .first) (hs .first),
+          within zero-float maxTrend (m .«rtt_trend» .long) (zl .first) (hl .first),
+          within zero-float maxTrend (m .«loss_trend» .short) (zs .second) (hs .second),
+          within zero-float maxTrend (m .«loss_trend» .long) (zl .second) (hl .second),
+          within zero-float maxTrend (m .«goodput_trend» .short) (zs .third) (hs .third),
+          within zero-float maxTrend (m .«goodput_trend» .long) (zl .third) (hl .third),
+          within zero-float maxTrend (m .«jitter_trend» .short) (zs .fourth) (hs .fourth),
+          within zero-float maxTrend (m .«jitter_trend» .long) (zl .fourth) (hl .fourth),
+          within zero-float maxTrend (m .«etx_trend» .short) (zs .fifth) (hs .fifth),
+          within zero-float maxTrend (m .«etx_trend» .long) (zl .fifth) (hl .fifth),
         ) refl,
         rw (
-          within zero-float one-float fwd (zs .1) (passed (b .1)),
-          within zero-float one-float rev (zl .1) (passed (c .1)),
-          within one-float maxEtx (m .etx) (passed (d .1)) (lt→le (m .etx) maxEtx (passed (e .1))),
-          within zero-float maxGoodput rate (lows .1) (le-transitive rate maxTrend maxGoodput (t .1) tt),
+          within zero-float one-float fwd (z .third) (passed forward),
+          within zero-float one-float rev (z .fourth) (passed reverse),
+          within one-float maxEtx (m .etx) (passed above) (lt→le (m .etx) maxEtx (passed below)),
+          within zero-float maxGoodput rate (z .fifth) (le-transitive rate maxTrend maxGoodput (t .1) tt),
         ) refl,
       )
 

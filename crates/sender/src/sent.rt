@@ -1,7 +1,12 @@
 // A frame is sent.
 
 ghost use mathlib.Core.Path.{_≡_};
-ghost use Rattle.sender.specs.Sent.{opened, sentOf};
+ghost use mathlib.Core.Bool.{false};
+ghost use mathlib.Core.List.{[], _∷_};
+ghost use Rattle.refusals.specs.Questions.{question, firstNo};
+ghost use Rattle.refusals.specs.Ranges.{frameSizeOk};
+ghost use Rattle.sender.specs.State.{keepsRule};
+ghost use Rattle.sender.specs.Sent.{opened, sentRefusal, sentOf};
 use crate::SenderState;
 use crate::SenderUpdate;
 use numbers::saturating_add;
@@ -24,17 +29,41 @@ impl SenderState {
         state
     }
 
-    // Records a frame sent: its counter, its session-relative timestamp in ms and its size.
-    pub fn record_sent(self, counter: u64, timestamp: u32, bytes: usize) -> SenderUpdate
-        ensures { λ r. ⌜ r ≡ sentOf self counter timestamp bytes ⌝ }
+    // The number of a frame's first no where there is one: what is neither the rule's nor the size's is the counters'.
+    fn sent_no(self, bytes: usize) -> u8
+        ensures { λ r. ⌜ r ≡ firstNo (question 1 (keepsRule self) ∷ question 3 (frameSizeOk bytes) ∷ question 10 false ∷ []) ⌝ }
     {
         let mut q = Questions::all_yes();
         q.state = self.keeps_rule();
         q.frame_size = frame_size_ok(bytes);
-        let packets_fit = counter_u64_ok(self.cumulative_packets_sent, 1);
-        let bytes_fit = counter_u64_ok(self.cumulative_bytes_sent, bytes as u64);
-        q.counters = packets_fit & bytes_fit;
-        let refusal = q.first_no();
+        q.counters = false;
+        q.first_no()
+    }
+
+    // The refusal of a frame. The tests stand in the order in which the compiler keeps each a compare and a branch: the bytes' sum is then its own test.
+    fn sent_refusal(self, bytes: usize) -> u8
+        ensures { λ r. ⌜ r ≡ sentRefusal self bytes ⌝ }
+    {
+        if self.keeps_rule() {} else {
+            return self.sent_no(bytes);
+        }
+        if counter_u64_ok(self.cumulative_bytes_sent, bytes as u64) {} else {
+            return self.sent_no(bytes);
+        }
+        if frame_size_ok(bytes) {} else {
+            return self.sent_no(bytes);
+        }
+        if counter_u64_ok(self.cumulative_packets_sent, 1) {} else {
+            return self.sent_no(bytes);
+        }
+        0
+    }
+
+    // Records a frame sent: its counter, its session-relative timestamp in ms and its size.
+    pub fn record_sent(self, counter: u64, timestamp: u32, bytes: usize) -> SenderUpdate
+        ensures { λ r. ⌜ r ≡ sentOf self counter timestamp bytes ⌝ }
+    {
+        let refusal = self.sent_refusal(bytes);
         if refusal == 0 {
             let mut state = self.open(counter, timestamp);
             state.last_counter = counter;

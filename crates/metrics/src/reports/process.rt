@@ -57,10 +57,10 @@ fn sum_of(a: f64, b: f64, c: f64, d: f64, e: f64) -> f64
     a + b + c + d + e
 }
 
-fn least_of(a: f64, b: f64, c: f64, d: f64, e: f64, f: f64) -> f64
-    ensures { λ r. ⌜ r ≡ lesser (lesser (lesser (lesser (lesser a b) c) d) e) f ⌝ }
+fn least_of(a: f64, b: f64, c: f64, d: f64, e: f64) -> f64
+    ensures { λ r. ⌜ r ≡ lesser (lesser (lesser (lesser a b) c) d) e ⌝ }
 {
-    least(least(least(least(least(a, b), c), d), e), f)
+    least(least(least(least(a, b), c), d), e)
 }
 
 impl MmpMetrics {
@@ -75,7 +75,11 @@ impl MmpMetrics {
             ecn: self.prev_rr_ecn_ce,
             reorders: self.prev_rr_reorder,
         };
-        self.has_prev_rr & is_stale(kept, rr)
+        if self.has_prev_rr {
+            is_stale(kept, rr)
+        } else {
+            false
+        }
     }
 
     // A report that is not stale.
@@ -148,8 +152,8 @@ impl MmpMetrics {
         }
     }
 
-    // Trends, ratios, ETX and goodput are in range. The trends and the goodput are at most their sum, which is a NaN where one of them is; no trend, ratio or goodput
-    // is below the least of them. A no says nothing.
+    // Trends, ratios, ETX and goodput are in range: lower ends, then upper. No trend, ratio or goodput is below the least of them; the trends and the goodput are at
+    // most their sum, which is a NaN where one of them is. A no says nothing.
     fn floats_near(self) -> bool
         ensures { λ r. ⌜ (r ≡ true → (trendsOk self ≡ true) × (ratiosOk self ≡ true)) ⌝ }
     {
@@ -166,31 +170,38 @@ impl MmpMetrics {
             etx.short,
         );
         let long = sum_of(rtt.long, loss.long, goodput.long, jitter.long, etx.long);
-        let forward = self.delivery_ratio_forward;
-        let reverse = self.delivery_ratio_reverse;
+        let total = short + long + self.goodput_bps;
         let least_short = least_of(
             rtt.short,
             loss.short,
             goodput.short,
             jitter.short,
             etx.short,
-            forward,
         );
-        let least_long = least_of(
-            rtt.long,
-            loss.long,
-            goodput.long,
-            jitter.long,
-            etx.long,
-            reverse,
+        let least_long = least_of(rtt.long, loss.long, goodput.long, jitter.long, etx.long);
+        let lowest = least_of(
+            least_short,
+            least_long,
+            self.delivery_ratio_forward,
+            self.delivery_ratio_reverse,
+            self.goodput_bps,
         );
-        let lowest = least(least(least_short, least_long), self.goodput_bps);
-        (short + long + self.goodput_bps <= MAX_TREND)
-            & (0.0 <= lowest)
-            & (forward <= 1.0)
-            & (reverse <= 1.0)
-            & (1.0 <= self.etx)
-            & (self.etx < MAX_ETX)
+        if 1.0 <= self.etx {} else {
+            return false;
+        }
+        if 0.0 <= lowest {} else {
+            return false;
+        }
+        if total <= MAX_TREND {} else {
+            return false;
+        }
+        if self.delivery_ratio_forward <= 1.0 {} else {
+            return false;
+        }
+        if self.delivery_ratio_reverse <= 1.0 {} else {
+            return false;
+        }
+        self.etx < MAX_ETX
     }
 
     // The clocks, the smoothed round trip and the counts are in range, none near its end. A no says nothing.
@@ -218,10 +229,10 @@ impl MmpMetrics {
     fn report_refusal(self, now_ms: u64) -> u8
         ensures { λ r. ⌜ r ≡ processRefusal self «now_ms» ⌝ }
     {
-        let floats = self.floats_near();
-        let numbers = self.numbers_near(now_ms);
-        if floats & numbers {
-            return 0;
+        if self.numbers_near(now_ms) {
+            if self.floats_near() {
+                return 0;
+            }
         }
         let mut q = Questions::all_yes();
         q.state = self.keeps_rule();

@@ -1,4 +1,4 @@
-//! bench CALL COUNT: the twin of crates/bench over the commit's Rust. The same inputs, the same loop, the same checksum.
+//! bench CALL COUNT [LESS]: the twin of crates/bench over the commit's Rust. The same inputs, the same loops, each a function of its own, the same checksum.
 //! `encode` makes a Vec, as the commit does; the port fills a lent array.
 
 mod processed;
@@ -92,6 +92,7 @@ fn called(call: u64, x: u64, payload: &[u8], out: &[u8]) -> u64 {
     }
 }
 
+#[inline(never)]
 fn reports(call: u64, count: u64) -> u64 {
     let mut payload = [0; 67];
     let out = [0; 68];
@@ -173,6 +174,7 @@ fn wrapped(n: usize) -> OwdTrendDetector {
     access::owd(n, samples)
 }
 
+#[inline(never)]
 fn figures(call: u64, count: u64) -> u64 {
     let n = if call == 1334 { 4096 } else { 32 };
     let mut numbers = [0; 64];
@@ -191,14 +193,15 @@ fn figures(call: u64, count: u64) -> u64 {
 }
 
 fn main() {
-    let mut words = env::args().skip(1).map(|word| word.parse().expect("a number"));
-    let (call, count): (u64, u64) = (words.next().unwrap_or(0), words.next().unwrap_or(0));
-    let sum = match call % 1000 / 100 {
+    let words: Vec<u64> = env::args().skip(1).map(|word| word.parse().expect("a number")).collect();
+    let word = |i: usize| words.get(i).copied().unwrap_or(0);
+    let call = word(0);
+    let sum_of = |count| match call % 1000 / 100 {
         3 => figures(call, count),
         4 => sent::sum(call, count),
         5 => received::sum(call, count),
         6 => processed::sum(call, count),
         _ => reports(call, count),
     };
-    println!("{sum}");
+    println!("{}", sum_of(word(1)).wrapping_sub(sum_of(word(2))));
 }

@@ -129,6 +129,7 @@ fn called(call: u64, x: u64, s: &Numbers, f: &Floats) -> u64 {
     }
 }
 
+#[inline(never)]
 pub fn sum(call: u64, count: u64) -> u64 {
     let mut numbers = [0; 64];
     let mut floats = [0.0; 64];

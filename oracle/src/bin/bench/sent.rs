@@ -15,6 +15,7 @@ fn state_sum(state: &SenderState) -> u64 {
 }
 
 /// 400, the loop alone; 404, a frame sent; 405, a frame sent and a report built.
+#[inline(never)]
 pub fn sum(call: u64, count: u64) -> u64 {
     let mut states: [SenderState; 8] = std::array::from_fn(|_| SenderState::new());
     let mut x = START;

@@ -1,6 +1,5 @@
 -- `metrics::MmpMetrics::report_refusal` meets its contract. Assumes nothing.
 use mathlib.Core.Path.{sym}
-use mathlib.Core.Bool.{and-eq-true-iff}
 use Rattle.refusals.specs.Questions.{firstNo, asked}
 use Rattle.metrics.specs.Reports.{processRefusal}
 use Rattle.metrics.proofs.WellWithin.{all-answered}
@@ -9,10 +8,9 @@ use Rattle.metrics.proofs.MmpMetrics.report_refusal.Tie as tie
 
 within : tie.Need-returns
 within c =
-    let b = c .before in
-    let a = b .before .before .args in
-    let y = and-eq-true-iff (b .before .floats-near .result) (b .numbers-near .result) .0 (c .if1 .taken) in
-    sym (all-answered (a .self) (a .now-ms) (b .before .floats-near .ensures (y .0)) (b .numbers-near .ensures (y .1)))
+    let numbers = c .before .before in
+    let a = numbers .before .before .args in
+    sym (all-answered (a .self) (a .now-ms) (c .before .floats-near .ensures (c .if2 .taken)) (numbers .before .numbers-near .ensures (numbers .if1 .taken)))
 
 each-asked : tie.Need-returns-2
 unfolding processRefusal firstNo asked
