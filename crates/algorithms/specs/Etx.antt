@@ -2,10 +2,10 @@
 use mathlib.Core.Bool.{cond, _&&_}
 use mathlib.Core.List.{[], _∷_}
 use lib.Ieee.{Float, binary64, add, mul, div, le}
-use Rattle.floats.specs.Operations.{zero-float, one-float, clamped}
+use Rattle.floats.specs.Operations.{zero-float, one-float, float, clamped}
 use Rattle.refusals.specs.Answers.{answerF64}
 use Rattle.refusals.specs.Questions.{question, firstNo}
-use Rattle.refusals.specs.Ranges.{float, ratioOk, etxOk, rttMsOk}
+use Rattle.refusals.specs.Ranges.{ratioOk, etxOk, rttMsOk}
 use Rattle.refusals.specs.declared.answer.AnswerF64.{AnswerF64}
 
 -- 100.0

@@ -22,7 +22,7 @@ use Rattle.floats.proofs.Smoothing.{ewma-within}
 use Rattle.refusals.specs.declared.option.OptionU64.{OptionU64}
 use Rattle.refusals.specs.declared.option.OptionU64.the-variants.{None, Some}
 use Rattle.figures.specs.Goodput.{maxGoodput, secondsOf, rateOf, towardRate, goodputOver, goodputAfter}
-use Rattle.figures.proofs.IntegersInRange.{units-within, integer-units}
+use Rattle.floats.proofs.IntegersInRange.{units-within, integer-units}
 
 -- ---- bytes a second: a millisecond or more is at least 2^-10 of a second
 module _ (f : Format) (small : 10 ≤ low f) (great : 74 ≤ emax f) (bytes ms : ℕ) (some : 0 < ms) (clock : ms ≤ 2 ^ 48) (word : bytes ≤ 2 ^ 64) where

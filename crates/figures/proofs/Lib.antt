@@ -1,5 +1,4 @@
 -- The figures stay in their ranges through rounding. Assumes nothing.
-pub mod IntegersInRange
 pub mod RatiosInRange
 pub mod GoodputInRange
 pub mod TripsInRange

@@ -3,8 +3,7 @@ use mathlib.Core.Bool.{Bool, cond}
 use Prim.Native.Nat.{ℕ, _-_}
 use lib.IntN.{pos}
 use lib.Ieee.{Float, Format, binary64, add, sub, mul, div, lt, eq, ofInt}
-use Rattle.floats.specs.Operations.{zero-float, one-quarter, inRange, thousand-float}
-use Rattle.refusals.specs.Ranges.{float}
+use Rattle.floats.specs.Operations.{zero-float, float, one-quarter, inRange, thousand-float}
 use Rattle.refusals.specs.declared.option.OptionU64.{OptionU64}
 use Rattle.refusals.specs.declared.option.OptionU64.the-variants.{None, Some}
 

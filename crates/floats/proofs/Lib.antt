@@ -16,5 +16,6 @@ pub mod Clamping
 pub mod Complements
 pub mod Ratios
 pub mod Quotients
+pub mod IntegersInRange
 pub mod Casts
 pub mod PowersOfTwo

@@ -11,6 +11,10 @@ zero-float = fin false 0 (pos 0)
 abbrev pub one-float : Float
 one-float = fin false 1 (pos 0)
 
+-- m times 2^e, exactly.
+abbrev pub float : ℕ → ℕ → Float
+float m e = fin false m (pos e)
+
 -- 1000.0, by which µs become ms and ms seconds.
 abbrev pub thousand-float : Float
 thousand-float = fin false 125 (pos 3)

@@ -3,8 +3,7 @@ use mathlib.Core.Bool.{cond}
 use Prim.Native.Nat.{ℕ, _*_, _/_, min}
 use lib.Dec.{eqb}
 use lib.Ieee.{Format, mul, toUnsigned}
-use Rattle.floats.specs.Operations.{rounded-quotient}
-use Rattle.refusals.specs.Ranges.{float}
+use Rattle.floats.specs.Operations.{float, rounded-quotient}
 use Rattle.gaps.specs.Gaps.{maxLength, closed}
 use Rattle.gaps.specs.declared.GapTracker.{GapTracker}
 use Rattle.gaps.specs.declared.IntervalStats.{IntervalStats}

@@ -24,7 +24,7 @@ use Rattle.algorithms.proofs.EtxOfRatios.{etx-within}
 use Rattle.figures.specs.Delivery.{deliveryRatio}
 use Rattle.figures.specs.Goodput.{maxGoodput}
 use Rattle.figures.proofs.GoodputInRange.{Goodput}
-use Rattle.figures.proofs.IntegersInRange.{integer-within}
+use Rattle.floats.proofs.IntegersInRange.{integer-within}
 use Rattle.figures.proofs.RatiosInRange.{delivery-within, delivery-fits, loss-fits, etx-fits}
 use Rattle.metrics.specs.State.{fresh, Kept}
 use Rattle.metrics.specs.Updates.{rekeyed, withReverseRatio, reverseMoved, reversed}

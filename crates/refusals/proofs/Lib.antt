@@ -2,4 +2,5 @@
 pub mod PickedByTest
 pub mod FirstNoFound
 pub mod Clauses
+pub mod MissingClock
 mod RoomLeft

@@ -50,3 +50,8 @@ answerOptionF64 n x = record { refusal = n; value = cond (eqb n 0) x optionF64.N
 -- a value that is there where the flag says so: Rust's `then_some`
 unfoldable pub thenSome : Bool → Float → OptionF64
 thenSome b x = cond b (optionF64.Some x) optionF64.None
+
+-- a value that is 0 where it is missing: Rust's `unwrap_or(0)`
+unfoldable pub orZero : OptionU64 → ℕ
+orZero optionU64.None = 0
+orZero (optionU64.Some n) = n

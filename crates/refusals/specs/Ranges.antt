@@ -4,8 +4,8 @@ use Prim.Native.Nat.{ℕ, _+_, _-_, _^_}
 use lib.Dec.{leb, ltb}
 use lib.IntN.{ℤ, pos, negℤ}
 use lib.Signed.{leZ}
-use lib.Ieee.{Float, fin}
-use Rattle.floats.specs.Operations.{zero-float, one-float, inRange}
+use lib.Ieee.{Float}
+use Rattle.floats.specs.Operations.{zero-float, one-float, float, inRange}
 use Rattle.refusals.specs.declared.option.OptionU64.{OptionU64}
 use Rattle.refusals.specs.declared.option.OptionU64.the-variants.{None, Some}
 
@@ -20,10 +20,6 @@ maxFrame = 2 ^ 32 - 1
 -- questions 5 and 8: 2^42 µs
 abbrev pub maxDelay : ℤ
 maxDelay = pos (2 ^ 42)
-
--- m times 2^e, exactly
-abbrev pub float : ℕ → ℕ → Float
-float m e = fin false m (pos e)
 
 -- question 11: an ETX at most 100
 abbrev pub maxEtx : Float

@@ -6,7 +6,8 @@ use lib.Dec.{eqb}
 use lib.Ieee.{Float}
 use Rattle.refusals.specs.Answers.{answerF64}
 use Rattle.refusals.specs.Questions.{question, firstNo}
-use Rattle.refusals.specs.Ranges.{float, counterOk}
+use Rattle.floats.specs.Operations.{float}
+use Rattle.refusals.specs.Ranges.{counterOk}
 use Rattle.refusals.specs.declared.answer.AnswerF64.{AnswerF64}
 use Rattle.sender.specs.State.{keepsRule, refusalOf}
 use Rattle.sender.specs.declared.SenderState.{SenderState}

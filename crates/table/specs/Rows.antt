@@ -5,8 +5,8 @@ use mathlib.Core.List.{List, [], _∷_, foldl}
 use Prim.Native.Nat.{ℕ, _^_, _-_}
 use lib.IntN.{ℤ, pos, negsuc}
 use lib.Ieee.{Float, fin}
+use Rattle.floats.specs.Operations as floats
 use Rattle.floats.specs.Operations.{zero-float, one-float}
-use Rattle.refusals.specs.Ranges as ranges
 use Rattle.refusals.specs.declared.option.OptionU64.the-variants as option
 use Rattle.wire.specs.declared.receiver_report.ReceiverReport.{ReceiverReport}
 use Rattle.algorithms.specs.Jitter as jitters
@@ -150,8 +150,8 @@ table =
     )
     -- ratios 0.5, 0.5 / 0, 1: ETX 4 / 100
     ∷ (
-    float (etxAnswer half-float half-float .value) (ranges.float 4 0)
-    ∷ float (etxAnswer zero-float one-float .value) (ranges.float 100 0)
+    float (etxAnswer half-float half-float .value) (floats.float 4 0)
+    ∷ float (etxAnswer zero-float one-float .value) (floats.float 100 0)
     ∷ []
     )
     -- pairs (0 ms, 0 µs), (1000, 1000): trend 1000

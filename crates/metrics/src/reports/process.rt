@@ -20,7 +20,7 @@ use figures::is_stale;
 use figures::round_trip;
 use figures::tallies_ok;
 use floats::least;
-use refusals::option::OptionU64;
+use refusals::option::unwrap_or_zero;
 use refusals::questions::Questions;
 use refusals::ranges::MAX_ETX;
 use refusals::ranges::MAX_TREND;
@@ -33,16 +33,6 @@ const FAR: u64 = 4_398_046_511_104;
 
 // 2^42 − 1 µs, 51 days: one below the bound of a round trip.
 const FAR_US: i64 = 4_398_046_511_103;
-
-// A clock that may be missing as a number, in range where the clock is.
-fn ms_of(ms: OptionU64) -> u64
-    ensures { λ r. ⌜ clockOk r ≡ optionalClockOk ms ⌝ }
-{
-    match ms {
-        OptionU64::None => 0,
-        OptionU64::Some(ms) => ms,
-    }
-}
 
 // A round trip below its bound.
 fn near_us(us: i64) -> bool
@@ -213,7 +203,7 @@ impl MmpMetrics {
             × (counterOk 64 (self .«reports_seen») 1 ≡ true)) ⌝ }
     {
         let prev_rr_ms = self.prev_rr_ms;
-        let prev = ms_of(prev_rr_ms);
+        let prev = unwrap_or_zero(prev_rr_ms);
         let smoothed = near_us(self.srtt.srtt_us);
         let variation = near_us(self.srtt.rttvar_us);
         let tallies = tallies_ok(

@@ -15,7 +15,7 @@ ghost use Rattle.receiver.specs.Frames.{countersOk, frameOf, frameTimes,
 use crate::ReceiverState;
 use crate::ReceiverUpdate;
 use gaps::MAX_BURST_LEN;
-use refusals::option::OptionU64;
+use refusals::option::unwrap_or_zero;
 use refusals::questions::Questions;
 use refusals::ranges::clock_ok;
 use refusals::ranges::frame_size_ok;
@@ -26,16 +26,6 @@ const FAR_MS: u64 = 4_398_046_511_104;
 
 // 2^63: half of what a counter holds.
 const HALF_COUNTER: u64 = 9_223_372_036_854_775_808;
-
-// A clock that may be missing as a number, in range where the clock is.
-fn ms_of(ms: OptionU64) -> u64
-    ensures { λ r. ⌜ clockOk r ≡ optionalClockOk ms ⌝ }
-{
-    match ms {
-        OptionU64::None => 0,
-        OptionU64::Some(ms) => ms,
-    }
-}
 
 // The clock of a reference that may be missing, in range where the reference is.
 fn reference_ms(owd_ref: OwdReference) -> u64
@@ -58,11 +48,11 @@ impl ReceiverState {
             × (clockOk «now_ms» ≡ true)) ⌝ }
     {
         let last_recv_ms = self.last_recv_ms;
-        let recv = ms_of(last_recv_ms);
+        let recv = unwrap_or_zero(last_recv_ms);
         let last_report_ms = self.last_report_ms;
-        let report = ms_of(last_report_ms);
+        let report = unwrap_or_zero(last_report_ms);
         let deadline_ms = self.rekey_jitter_grace_until_ms;
-        let deadline = ms_of(deadline_ms);
+        let deadline = unwrap_or_zero(deadline_ms);
         let owd_ref = self.owd_ref;
         let reference = reference_ms(owd_ref);
         (recv < FAR_MS)

@@ -4,6 +4,7 @@ use mathlib.Core.Bool.{true}
 use mir.Syntax.{w64}
 use mir.Facts.{toZ-ofZ}
 use Rattle.algorithms.specs.Srtt.{keepsRule}
+use Rattle.refusals.proofs.MissingClock.{clock-read}
 use Rattle.metrics.proofs.WellWithin.{numbers-near}
 use Rattle.metrics.proofs.MmpMetrics.numbers_near.Statement.{statement}
 use Rattle.metrics.proofs.MmpMetrics.numbers_near.Tie as tie
@@ -21,7 +22,7 @@ returns c h =
     let b = c .before .before in
     let m = b .before .before .before .before in
     let a = m .before .args in
-    numbers-near (a .self) (a .now-ms) (m .ms-of .result) (b .before .before .near-us .result) (b .near-us2 .result) (c .before .tallies-ok .result) (m .ms-of .ensures) (trips b) (c .before .tallies-ok .ensures) h
+    numbers-near (a .self) (a .now-ms) (m .unwrap-or-zero .result) (b .before .before .near-us .result) (b .near-us2 .result) (c .before .tallies-ok .result) (clock-read _ (a .self .«prev_rr_ms») (m .unwrap-or-zero .ensures)) (trips b) (c .before .tallies-ok .ensures) h
 
 pub numbers-near-spec : {M : Type 1} → statement M
 numbers-near-spec = tie.close (tie.spec (λ c κs. tt) (λ c κs. tt) (λ c κs. tt) (λ c κs. tt) returns)

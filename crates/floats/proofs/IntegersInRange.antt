@@ -9,11 +9,10 @@ use lib.Ieee.{Float, Format, emax, low, ofInt}
 use lib.Ieee.Exact.{HasValue}
 use lib.Ieee.Order.{le-of-values}
 use lib.Ieee.Scale.{grid}
-use Rattle.floats.specs.Operations.{zero-float}
+use Rattle.floats.specs.Operations.{zero-float, float}
 use Rattle.floats.proofs.Grid.{grid-le, held-two-to}
 use Rattle.floats.proofs.Quotients.{integer-value}
 use Rattle.floats.proofs.Ranges.{Within}
-use Rattle.refusals.specs.Ranges.{float}
 
 -- a value of so many units, at most 2^k
 pub units-within : (f : Format) (x : Float) (g k : ℕ) → HasValue x false g (2 ^ low f) → g ≤ 2 ^ (k + low f) → Within zero-float (float 1 k) x
