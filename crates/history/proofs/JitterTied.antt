@@ -1,16 +1,16 @@
--- A receiver's scaled jitter stays near the exact average of the calls on it, and so does the jitter of every report that it builds.
--- Assumes nothing.
-use mathlib.Core.Path.{_≡_, refl, sym, ap}
+-- A receiver's scaled jitter is that of the differences which the calls on it gave, and so the jitter of every report that it builds stays near their exact
+-- average.
+use mathlib.Core.Path.{_≡_, refl, sym, ap, _∙_}
 use mathlib.Core.Bool.{Bool, true, false, cond, not}
-use mathlib.Core.List.{List, [], _∷_}
+use mathlib.Core.List.{List, [], _∷_, _++_, map, append-nil, map-append, foldl-append}
 use Prim.Native.Nat.{ℕ, _+_, _-_, _<_, _^_}
 use native.Mathlib.Omega.{arith}
 use lib.Dec.{eqb}
 use lib.IntN.{ℤ, natAbs}
 use borrow.Author.Tests.{eqb-true}
-use Rattle.numbers.specs.Jitter.{JitterAverage, reported, ScaledNear, ReportedNear}
+use Rattle.numbers.specs.Jitter.{jitterStep, scaledOf, reported, ReportedNear}
 use Rattle.numbers.specs.Signs.{asUnsigned}
-use Rattle.numbers.proofs.JitterStaysNear.{scaled-step, scaled-none, reported-near}
+use Rattle.numbers.proofs.JitterStaysNear.{reported-of-near}
 use Rattle.refusals.specs.Questions.{question}
 use Rattle.refusals.specs.declared.option.OptionU64.{OptionU64}
 use Rattle.refusals.specs.declared.option.OptionU64.the-variants.{None, Some}
@@ -32,102 +32,133 @@ use Rattle.wire.specs.declared.receiver_report.ReceiverReport.{ReceiverReport}
 use Rattle.history.specs.Answers.{Answer}
 use Rattle.history.specs.ReceiverCalls.{ReceiverNew, newReceiver, Frame, ReceiverCall, framing, receiverStep}
 use Rattle.history.specs.ExactJitter as exact
+use Rattle.history.specs.NoCreep.{jitterAverage}
+use Rattle.history.proofs.DifferencesAgree.{graceIn, grace-agrees, difference-agrees}
 
 -- the last sampled frame as the record has it
 abbrev pub lastIn : OptionU64 → ℕ → exact.Last
 lastIn None timestamp = exact.no-frame
 lastIn (Some recv) timestamp = exact.frame recv timestamp
 
-pub record Tied (x : exact.Exact) (s : ReceiverState) : Type 0 where
-  pub near : ScaledNear (x .average) (asUnsigned (s .jitter .«jitter_q4»))
-  pub last : lastIn (s .«last_recv_ms») (s .«last_sender_timestamp») ≡ x .last
-  pub deadline : s .«rekey_jitter_grace_until_ms» ≡ x .deadline
+-- what is heard of the calls: the differences, the last frame and the grace
+pub record Sounds : Type 0 where
+  pub differences : List ℤ
+  pub last : exact.Last
+  pub grace : exact.Grace
+
+abbrev pub soundsOf : List ReceiverCall → Sounds
+soundsOf l = record { differences = exact.differences l; last = exact.lastAfter l; grace = exact.graceAfter l }
+
+abbrev pub after : exact.Heard → Sounds → Sounds
+after x y =
+    record {
+      differences = exact.differencesBy x (y .grace) (y .last) (y .differences);
+      last = exact.lastBy x (y .last);
+      grace = exact.graceBy x (y .grace);
+    }
+
+abbrev silence : Sounds
+silence = record { differences = []; last = exact.no-frame; grace = exact.no-grace }
+
+abbrev scaled : List ℤ → ℕ
+scaled ds = scaledOf (map natAbs ds)
+
+pub record Tied (y : Sounds) (s : ReceiverState) : Type 0 where
+  pub jitter : asUnsigned (s .jitter .«jitter_q4») ≡ scaled (y .differences)
+  pub last : lastIn (s .«last_recv_ms») (s .«last_sender_timestamp») ≡ y .last
+  pub grace : graceIn (s .«rekey_jitter_grace_until_ms») ≡ y .grace
 
 -- ---- a new record
-started-tied : (window ms : ℕ) → Tied exact.new (startedAt window ms)
-started-tied window ms = record { near = scaled-none; last = refl; deadline = refl }
+started-tied : (window ms : ℕ) → Tied silence (startedAt window ms)
+started-tied window ms = record { jitter = refl; last = refl; grace = refl }
 
-pub new-tied : (k : ReceiverNew) → Tied exact.new (newReceiver k)
-unfolding newOf
+pub new-tied : (k : ReceiverNew) → Tied (soundsOf []) (newReceiver k)
+unfolding newOf exact.differences exact.lastAfter exact.graceAfter
 new-tied (ReceiverNew.new window) = started-tied window 200
 new-tied ReceiverNew.default = started-tied 32 200
 new-tied (ReceiverNew.«new_with_cold_start» window ms) = go (eqb (newRefusal ms) 0)
   where
-    go : (b : Bool) → Tied exact.new (cond b (startedAt window ms) fresh)
+    go : (b : Bool) → Tied silence (cond b (startedAt window ms) fresh)
     go true = started-tied window ms
     go false = started-tied 32 200
 
 -- ---- a frame
--- a difference moves both alike
-given-near : (recv : OptionU64) (before timestamp now : ℕ) (j : JitterEstimator) (a : JitterAverage) → ScaledNear a (asUnsigned (j .«jitter_q4»)) →
-    ScaledNear (exact.given (lastIn recv before) timestamp now a) (asUnsigned (jitterAfter j recv before timestamp now .«jitter_q4»))
-unfolding exact.given stepped
-given-near None before timestamp now j a h = h
-given-near (Some recv) before timestamp now j a h = scaled-step (natAbs (transit (now - recv) timestamp before)) h
+-- a difference more is a step more
+scaled-more : (ds : List ℤ) (d : ℤ) → scaled (ds ++ d ∷ []) ≡ jitterStep (scaled ds) (natAbs d)
+scaled-more ds d = ap scaledOf (map-append natAbs ds (d ∷ [])) ∙ foldl-append jitterStep 0 (map natAbs ds) (natAbs d ∷ [])
+
+-- the step that a frame's difference makes, from the frame before; without one there is none
+step-tied : (recv : OptionU64) (before timestamp now : ℕ) (j : JitterEstimator) (ds : List ℤ) → asUnsigned (j .«jitter_q4») ≡ scaled ds →
+    asUnsigned (jitterAfter j recv before timestamp now .«jitter_q4») ≡ scaled (ds ++ exact.differenceFrom (lastIn recv before) now timestamp)
+unfolding exact.differenceFrom stepped
+step-tied None before timestamp now j ds h = h ∙ ap scaled (sym (append-nil ds))
+step-tied (Some recv) before timestamp now j ds h =
+    rw (difference-agrees recv before now timestamp) (ap (λ (n : ℕ). jitterStep n (natAbs (transit (now - recv) timestamp before))) h ∙ sym (scaled-more ds (transit (now - recv) timestamp before)))
 
 -- counting moves none of it
-counted-tied : (x : exact.Exact) (s : ReceiverState) (counter bytes : ℕ) (ce : Bool) → Tied x s → Tied x (counted s counter bytes ce)
+counted-tied : (y : Sounds) (s : ReceiverState) (counter bytes : ℕ) (ce : Bool) → Tied y s → Tied y (counted s counter bytes ce)
 unfolding counted
-counted-tied x s counter bytes ce h = record { near = h .near; last = h .last; deadline = h .deadline }
+counted-tied y s counter bytes ce h = record { jitter = h .jitter; last = h .last; grace = h .grace }
 
-sampled-tied : (x : exact.Exact) (s : ReceiverState) (times : List ℕ) (delays : List ℤ) (timestamp now : ℕ) → Tied x s →
-    Tied (exact.step (exact.sampled timestamp now) x) (taken s times delays timestamp now true)
-unfolding taken pushes measured unmeasured exact.step
-sampled-tied x s times delays timestamp now h = rw (← h .deadline, ← h .last) (go (inGrace (s .«rekey_jitter_grace_until_ms») now))
+sampled-tied : (y : Sounds) (s : ReceiverState) (times : List ℕ) (delays : List ℤ) (timestamp now : ℕ) → Tied y s →
+    Tied (after (exact.sampled timestamp now) y) (taken s times delays timestamp now true)
+unfolding taken pushes measured unmeasured exact.differencesBy exact.lastBy exact.graceBy
+sampled-tied y s times delays timestamp now h =
+    rw (← h .grace, ← h .last, grace-agrees (s .«rekey_jitter_grace_until_ms») now) (go (inGrace (s .«rekey_jitter_grace_until_ms») now))
   where
     go : (b : Bool) →
         Tied
         (record {
+          differences = cond b (y .differences) (y .differences ++ exact.differenceFrom (lastIn (s .«last_recv_ms») (s .«last_sender_timestamp»)) now timestamp);
           last = exact.frame now timestamp;
-          deadline = cond b (s .«rekey_jitter_grace_until_ms») None;
-          average = cond b (x .average) (exact.given (lastIn (s .«last_recv_ms») (s .«last_sender_timestamp»)) timestamp now (x .average));
+          grace = cond b (graceIn (s .«rekey_jitter_grace_until_ms»)) exact.no-grace;
         })
         (cond (not b) (measured s times delays timestamp now) (unmeasured s timestamp now true))
-    go true = record { near = h .near; last = refl; deadline = refl }
-    go false = record { near = given-near (s .«last_recv_ms») (s .«last_sender_timestamp») timestamp now (s .jitter) (x .average) (h .near); last = refl; deadline = refl }
+    go true = record { jitter = h .jitter; last = refl; grace = refl }
+    go false = record { jitter = step-tied (s .«last_recv_ms») (s .«last_sender_timestamp») timestamp now (s .jitter) (y .differences) (h .jitter); last = refl; grace = refl }
 
 -- frameOf behind its questions
-frame-tied : (x : exact.Exact) (s : ReceiverState) (f : Frame) (sampled : Bool) → framing f sampled s .refusal ≡ 0 → Tied x s →
-    Tied (exact.step (exact.heard (ReceiverCall.«record_frame» f sampled)) x) (framing f sampled s .state)
-unfolding frameOf taken pushes unmeasured exact.step
-frame-tied x s f true e h =
-    rw e (sampled-tied x (counted s (f .counter) (f .bytes) (f .ce)) (f .times) (f .delays) (f .timestamp) (f .now) (counted-tied x s (f .counter) (f .bytes) (f .ce) h))
-frame-tied x s f false e h = rw e (counted-tied x s (f .counter) (f .bytes) (f .ce) h)
+frame-tied : (y : Sounds) (s : ReceiverState) (f : Frame) (sampled : Bool) → framing f sampled s .refusal ≡ 0 → Tied y s →
+    Tied (after (exact.heard (ReceiverCall.«record_frame» f sampled)) y) (framing f sampled s .state)
+unfolding frameOf taken pushes unmeasured exact.differencesBy exact.lastBy exact.graceBy
+frame-tied y s f true e h =
+    rw e (sampled-tied y (counted s (f .counter) (f .bytes) (f .ce)) (f .times) (f .delays) (f .timestamp) (f .now) (counted-tied y s (f .counter) (f .bytes) (f .ce) h))
+frame-tied y s f false e h = rw e (counted-tied y s (f .counter) (f .bytes) (f .ce) h)
 
 -- ---- the other calls
-built-tied : (x : exact.Exact) (s : ReceiverState) (trend : ℤ) (now : ℕ) → Tied x s → Tied x (built s trend now .state)
+built-tied : (y : Sounds) (s : ReceiverState) (trend : ℤ) (now : ℕ) → Tied y s → Tied y (built s trend now .state)
 unfolding built
-built-tied x s trend now h = go (s .«interval_has_data»)
+built-tied y s trend now h = go (s .«interval_has_data»)
   where
-    go : (b : Bool) → Tied x (cond b (someBuilt s trend now) (noneBuilt 0 s) .state)
-    go true = record { near = h .near; last = h .last; deadline = h .deadline }
+    go : (b : Bool) → Tied y (cond b (someBuilt s trend now) (noneBuilt 0 s) .state)
+    go true = record { jitter = h .jitter; last = h .last; grace = h .grace }
     go false = h
 
-report-tied : (x : exact.Exact) (s : ReceiverState) (times : List ℕ) (delays : List ℤ) (now : ℕ) → Tied x s → Tied x (builtOf s times delays now .state)
+report-tied : (y : Sounds) (s : ReceiverState) (times : List ℕ) (delays : List ℤ) (now : ℕ) → Tied y s → Tied y (builtOf s times delays now .state)
 unfolding builtOf
-report-tied x s times delays now h = go (eqb (reportRefusal s times delays now) 0) _
+report-tied y s times delays now h = go (eqb (reportRefusal s times delays now) 0) _
   where
-    go : (b : Bool) (trend : ℤ) → Tied x (cond b (built s trend now) (noneBuilt (reportRefusal s times delays now) s) .state)
-    go true trend = built-tied x s trend now h
+    go : (b : Bool) (trend : ℤ) → Tied y (cond b (built s trend now) (noneBuilt (reportRefusal s times delays now) s) .state)
+    go true trend = built-tied y s trend now h
     go false trend = h
 
-paced-tied : (x : exact.Exact) (s : ReceiverState) (srtt : ℤ) (lo hi updates : ℕ) → Tied x s → Tied x (paced s srtt lo hi updates)
+paced-tied : (y : Sounds) (s : ReceiverState) (srtt : ℤ) (lo hi updates : ℕ) → Tied y s → Tied y (paced s srtt lo hi updates)
 unfolding paced
-paced-tied x s srtt lo hi updates h = record { near = h .near; last = h .last; deadline = h .deadline }
+paced-tied y s srtt lo hi updates h = record { jitter = h .jitter; last = h .last; grace = h .grace }
 
-rekeyed-tied : (x : exact.Exact) (s : ReceiverState) (now : ℕ) → Tied (exact.step (exact.rekeyed now) x) (rekeyed s (now + 15000))
-unfolding rekeyed exact.step
-rekeyed-tied x s now = record { near = scaled-none; last = refl; deadline = refl }
+rekeyed-tied : (y : Sounds) (s : ReceiverState) (now : ℕ) → Tied (after (exact.rekeyed now) y) (rekeyed s (now + 15000))
+unfolding rekeyed exact.differencesBy exact.lastBy exact.graceBy
+rekeyed-tied y s now = record { jitter = refl; last = refl; grace = refl }
 
 -- every accepted call
-pub tied-next : (c : ReceiverCall) (l : List ReceiverCall) (s : ReceiverState) → receiverStep c s .refusal ≡ 0 → Tied (exact.after l) s → Tied (exact.after (c ∷ l)) (receiverStep c s .state)
-unfolding receiverStep rekeyOf fromSrttOf countedPace withBoundsOf exact.after exact.step
-tied-next (ReceiverCall.«record_frame» f sampled) l s e h = frame-tied (exact.after l) s f sampled e h
-tied-next (ReceiverCall.«record_recv» f) l s e h = frame-tied (exact.after l) s f true e h
-tied-next (ReceiverCall.«reset_for_rekey» now) l s e h = rw e (rekeyed-tied (exact.after l) s now)
-tied-next (ReceiverCall.«build_report» times delays now) l s e h = report-tied (exact.after l) s times delays now h
-tied-next (ReceiverCall.«update_report_interval_from_srtt» srtt) l s e h = rw e (paced-tied (exact.after l) s srtt _ _ _ h)
-tied-next (ReceiverCall.«update_report_interval_with_bounds» srtt lo hi) l s e h = rw e (paced-tied (exact.after l) s srtt lo hi _ h)
+pub tied-next : (c : ReceiverCall) (l : List ReceiverCall) (s : ReceiverState) → receiverStep c s .refusal ≡ 0 → Tied (soundsOf l) s → Tied (soundsOf (c ∷ l)) (receiverStep c s .state)
+unfolding receiverStep rekeyOf fromSrttOf countedPace withBoundsOf exact.differences exact.lastAfter exact.graceAfter exact.differencesBy exact.lastBy exact.graceBy
+tied-next (ReceiverCall.«record_frame» f sampled) l s e h = frame-tied (soundsOf l) s f sampled e h
+tied-next (ReceiverCall.«record_recv» f) l s e h = frame-tied (soundsOf l) s f true e h
+tied-next (ReceiverCall.«reset_for_rekey» now) l s e h = rw e (rekeyed-tied (soundsOf l) s now)
+tied-next (ReceiverCall.«build_report» times delays now) l s e h = report-tied (soundsOf l) s times delays now h
+tied-next (ReceiverCall.«update_report_interval_from_srtt» srtt) l s e h = rw e (paced-tied (soundsOf l) s srtt _ _ _ h)
+tied-next (ReceiverCall.«update_report_interval_with_bounds» srtt lo hi) l s e h = rw e (paced-tied (soundsOf l) s srtt lo hi _ h)
 tied-next (ReceiverCall.ask q) l s e h = h
 
 -- ---- a report
@@ -156,20 +187,20 @@ built-jitter s trend now rr e = go (s .«interval_has_data») e
     go true e = let same : someBuilt s trend now .report ≡ rr = cc in ap (λ (r : ReceiverReport). r .jitter) (sym same)
     go false e = let z : _≡_ {A = ℕ} 0 1 = cc in absurd (omega arith)
 
-pub report-near : (s : ReceiverState) (times : List ℕ) (delays : List ℤ) (now : ℕ) (x : exact.Exact) (rr : ReceiverReport) → Tied x s →
+pub report-near : (s : ReceiverState) (times : List ℕ) (delays : List ℤ) (now : ℕ) (l : List ReceiverCall) (rr : ReceiverReport) → Tied (soundsOf l) s →
     _≡_ {A = Answer} (Answer.receiver-report (builtOf s times delays now .some) (builtOf s times delays now .report)) (Answer.receiver-report true rr) →
-    (rr .jitter < 2 ^ 32) × ReportedNear (x .average) (rr .jitter)
+    (rr .jitter < 2 ^ 32) × ReportedNear (jitterAverage l) (rr .jitter)
 unfolding builtOf
-report-near s times delays now x rr t e = go (eqb (reportRefusal s times delays now) 0) (trendOf (window (s .«owd_trend») times delays)) (eqb-true (reportRefusal s times delays now) 0) e
+report-near s times delays now l rr t e = go (eqb (reportRefusal s times delays now) 0) (trendOf (window (s .«owd_trend») times delays)) (eqb-true (reportRefusal s times delays now) 0) e
   where
     lawful : reportRefusal s times delays now ≡ 0 → jitters.keepsRule (s .jitter) ≡ true
     lawful r = kept s (report-asked s times delays now r .0) .jitter
 
     go : (b : Bool) (trend : ℤ) → (b ≡ true → reportRefusal s times delays now ≡ 0) →
         _≡_ {A = Answer} (Answer.receiver-report (cond b (built s trend now) (noneBuilt (reportRefusal s times delays now) s) .some) (cond b (built s trend now) (noneBuilt (reportRefusal s times delays now) s) .report)) (Answer.receiver-report true rr) →
-        (rr .jitter < 2 ^ 32) × ReportedNear (x .average) (rr .jitter)
+        (rr .jitter < 2 ^ 32) × ReportedNear (jitterAverage l) (rr .jitter)
     go true trend f e =
         let h = lawful (f refl) in
         let same = built-jitter s trend now rr e in
-        (rw same (reported-fits (s .jitter) h), rw (same, reported-value (s .jitter) h) (reported-near (t .near)))
+        (rw same (reported-fits (s .jitter) h), rw (same, reported-value (s .jitter) h, t .jitter) (reported-of-near (map natAbs (exact.differences l))))
     go false trend f e = let z : _≡_ {A = ℕ} 0 1 = cc in absurd (omega arith)

@@ -1,7 +1,14 @@
 pub mod Runs
+pub mod Reached
 pub mod RefusedStays
-pub mod JitterTied
+pub mod RoundTripsAgree
 pub mod RoundTripTied
+pub mod DifferencesAgree
+pub mod JitterTied
 pub mod RulesKept
+pub mod Asked
+pub mod SenderAsked
+pub mod ReceiverAsked
+pub mod MetricsAsked
 pub mod SeenAside
 pub mod NoCreepHolds

@@ -1,67 +1,103 @@
--- A metrics record's SRTT and RTTVAR stay tied to the exact averages of the calls on it, and the report that it keeps is the one that the list keeps.
--- Assumes nothing.
-use mathlib.Core.Path.{_≡_, sym, _∙_, ap}
-use mathlib.Core.Bool.{Bool}
-use mathlib.Core.List.{List, _∷_}
-use Prim.Native.Nat.{ℕ, _*_}
-use native.Mathlib.Omega.{arith}
-use Rattle.numbers.specs.RoundTrip as rt
-use Rattle.numbers.proofs.RoundTripStaysTied as numbers
+-- A metrics record's SRTT and RTTVAR are the estimates of the round trips that the calls on it took, the report that it keeps is the one that its log keeps,
+-- and its reports seen are those processed.
+use mathlib.Core.Path.{_≡_, refl, sym, _∙_, ap}
+use mathlib.Core.Bool.{Bool, true, false, cond, _&&_}
+use mathlib.Core.List.{List, [], _∷_, _++_, map-append, foldl, foldl-append}
+use Prim.Native.Nat.{ℕ, _+_, _*_, _-_}
+use lib.Dec.{ltb}
+use lib.Ieee.{Float}
+use Rattle.numbers.specs.RoundTrip.{multiples, no-estimate, estimateStep, estimateOf}
 use Rattle.wire.specs.declared.receiver_report.ReceiverReport.{ReceiverReport}
 use Rattle.algorithms.specs.Srtt.{estimateIn}
-use Rattle.figures.specs.Stale.{Saved, stale}
+use Rattle.figures.specs.Stale as figures
 use Rattle.figures.specs.RoundTrips.{roundTrip}
 use Rattle.figures.specs.declared.RoundTrip.{RoundTrip}
 use Rattle.figures.specs.declared.RoundTrip.the-variants.{NoEcho, Sample, Zero, ArithFail}
 use Rattle.metrics.specs.State.{savedIn}
-use Rattle.metrics.specs.Reports.{counted, taken, processOf}
-use Rattle.metrics.specs.Updates.{rekeyOf, reverseOf}
+use Rattle.metrics.specs.Reports.{counted, sampled, tripTaken, taken, processOf}
+use Rattle.metrics.specs.Updates.{rekeyed, rekeyOf, withReverseRatio, reverseMoved, reversed, reverseOf}
 use Rattle.metrics.specs.declared.MmpMetrics.{MmpMetrics}
-use Rattle.metrics.proofs.ReportsByCase.{process-refusal, by-case}
-use Rattle.metrics.proofs.RoundTripsTaken.{afterTrip, fresh-estimate, fresh-saved, counted-estimator, counted-saved, taken-estimate, taken-saved, rekeyed-estimator, rekeyed-saved, reversed-leaves}
+use Rattle.metrics.proofs.ReportsByCase.{process-refusal, by-case, measured-leaves}
+use Rattle.metrics.proofs.RoundTripsTaken.{fresh-estimate, fresh-saved, counted-estimator, counted-saved, taken-estimate, taken-saved, rekeyed-estimator, rekeyed-saved, reversed-leaves}
 use Rattle.history.specs.MetricsCalls.{MetricsNew, newMetrics, MetricsCall, metricsStep}
 use Rattle.history.specs.ExactRoundTrip as exact
+use Rattle.history.proofs.RoundTripsAgree.{savedAs, stale-agrees, trip-agrees}
 
-pub record Tied (x : exact.Exact) (m : MmpMetrics) : Type 0 where
-  pub near : rt.Tied (x .average) (estimateIn (m .srtt))
-  pub same : savedIn m ≡ x .kept
+pub record Tied (l : List MetricsCall) (m : MmpMetrics) : Type 0 where
+  pub estimate : estimateIn (m .srtt) ≡ estimateOf (exact.roundTrips l)
+  pub kept : savedIn m ≡ savedAs (exact.keptAfter l)
+  pub seen : m .«reports_seen» ≡ exact.processed l
 
-pub new-tied : (k : MetricsNew) → Tied exact.new (newMetrics k)
-new-tied MetricsNew.new = record { near = rw fresh-estimate rt.Beside.not-begun; same = fresh-saved }
-new-tied MetricsNew.default = record { near = rw fresh-estimate rt.Beside.not-begun; same = fresh-saved }
+pub new-tied : (k : MetricsNew) → Tied [] (newMetrics k)
+unfolding exact.keptAfter exact.tripsMs exact.processed
+new-tied MetricsNew.new = record { estimate = fresh-estimate; kept = fresh-saved; seen = refl }
+new-tied MetricsNew.default = record { estimate = fresh-estimate; kept = fresh-saved; seen = refl }
 
--- a sample of whole milliseconds, a multiple of 8 µs, moves both alike; nothing else moves either
-given-tied : (t : RoundTrip) {a : rt.Average} {e : rt.Estimate} → rt.Tied a e → rt.Tied (exact.given t a) (afterTrip e t)
-unfolding exact.given
-given-tied NoEcho h = h
-given-tied (Sample ms) h = numbers.tied-step (1000 * ms) (125 * ms) (omega arith) h
-given-tied Zero h = h
-given-tied ArithFail h = h
+-- the estimate of a list and what comes after it
+estimate-of-more : (ms more : List ℕ) → estimateOf (multiples 1000 (ms ++ more)) ≡ foldl estimateStep (estimateOf (multiples 1000 ms)) (multiples 1000 more)
+estimate-of-more ms more = ap estimateOf (map-append (λ (k : ℕ). 1000 * k) ms more) ∙ foldl-append estimateStep no-estimate (multiples 1000 ms) (multiples 1000 more)
+
+trip-seen : (m : MmpMetrics) (t : RoundTrip) → tripTaken m t .«reports_seen» ≡ m .«reports_seen»
+unfolding tripTaken sampled
+trip-seen m NoEcho = refl
+trip-seen m (Sample ms) = refl
+trip-seen m Zero = refl
+trip-seen m ArithFail = refl
+
+counted-seen : (m : MmpMetrics) → counted m .«reports_seen» ≡ m .«reports_seen» + 1
+unfolding counted
+counted-seen m = refl
+
+taken-seen : (m : MmpMetrics) (rr : ReceiverReport) (ours now : ℕ) → taken m rr ours now .«reports_seen» ≡ m .«reports_seen»
+unfolding taken
+taken-seen m rr ours now = measured-leaves (tripTaken m (roundTrip rr ours)) rr now .seen ∙ trip-seen m (roundTrip rr ours)
 
 -- a report, stale or taken
-process-tied : (x : exact.Exact) (m : MmpMetrics) (rr : ReceiverReport) (ours now : ℕ) → processOf m rr ours now .refusal ≡ 0 → Tied x m →
-    Tied (exact.step (exact.reported rr ours) x) (processOf m rr ours now .state)
-unfolding exact.step
-process-tied x m rr ours now e h =
-    by-case m rr ours now (λ p. Tied (exact.step (exact.reported rr ours) x) (p .state))
+process-tied : (l : List MetricsCall) (m : MmpMetrics) (rr : ReceiverReport) (ours now : ℕ) → processOf m rr ours now .refusal ≡ 0 → Tied l m →
+    Tied (MetricsCall.«process_receiver_report» rr ours now ∷ l) (processOf m rr ours now .state)
+unfolding exact.keptAfter exact.tripsMs exact.processed
+process-tied l m rr ours now e h =
+    by-case m rr ours now (λ p. Tied (MetricsCall.«process_receiver_report» rr ours now ∷ l) (p .state))
     (λ ne. absurd (ne (sym (process-refusal m rr ours now) ∙ e)))
-    (λ z s. rw (its s) (record { near = rw (counted-estimator m) (h .near); same = counted-saved m ∙ h .same }))
-    (λ z s. rw (its s)
-    (record {
-      near = rw (taken-estimate (counted m) rr ours now, counted-estimator m) (given-tied (roundTrip rr ours) (h .near));
-      same = taken-saved (counted m) rr ours now;
-    }))
+    (λ z s. record {
+      estimate = rw (its s) (ap estimateIn (counted-estimator m) ∙ h .estimate ∙ sym (estimate-of-more (exact.tripsMs l) []));
+      kept = rw (its s) (counted-saved m ∙ h .kept);
+      seen = counted-seen m ∙ ap (λ (n : ℕ). n + 1) (h .seen);
+    })
+    (λ z s. record {
+      estimate =
+          rw (its s)
+          (taken-estimate (counted m) rr ours now
+          ∙ trip-agrees (estimateIn (counted m .srtt)) rr ours
+          ∙ ap (λ e. foldl estimateStep e (multiples 1000 (exact.tripMs rr ours))) (ap estimateIn (counted-estimator m) ∙ h .estimate)
+          ∙ sym (estimate-of-more (exact.tripsMs l) (exact.tripMs rr ours)));
+      kept = rw (its s) (taken-saved (counted m) rr ours now);
+      seen = taken-seen (counted m) rr ours now ∙ counted-seen m ∙ ap (λ (n : ℕ). n + 1) (h .seen);
+    })
   where
-    its : {b : Bool} → stale (savedIn m) rr ≡ b → stale (x .kept) rr ≡ b
-    its s = ap (λ (k : Saved). stale k rr) (sym (h .same)) ∙ s
+    its : {b : Bool} → figures.stale (savedIn m) rr ≡ b → exact.stale (exact.keptAfter l) rr ≡ b
+    its s = sym (stale-agrees (exact.keptAfter l) rr) ∙ ap (λ (k : figures.Saved). figures.stale k rr) (sym (h .kept)) ∙ s
+
+rekeyed-seen : (m : MmpMetrics) → rekeyed m .«reports_seen» ≡ m .«reports_seen»
+unfolding rekeyed
+rekeyed-seen m = refl
+
+reversed-seen : (m : MmpMetrics) (packets highest : ℕ) → reversed m packets highest .«reports_seen» ≡ m .«reports_seen»
+unfolding reversed reverseMoved
+reversed-seen m packets highest = go (m .«has_prev_reverse» && ltb 0 (highest - m .«prev_reverse_highest»)) _
+  where
+    go : (b : Bool) (ratio : Float) → cond b (withReverseRatio m ratio) m .«reports_seen» ≡ m .«reports_seen»
+    go true ratio = refl
+    go false ratio = refl
 
 -- every accepted call
-pub tied-next : (c : MetricsCall) (l : List MetricsCall) (m : MmpMetrics) → metricsStep c m .refusal ≡ 0 → Tied (exact.after l) m → Tied (exact.after (c ∷ l)) (metricsStep c m .state)
-unfolding metricsStep rekeyOf reverseOf exact.after exact.step
-tied-next (MetricsCall.«process_receiver_report» rr ours now) l m e h = process-tied (exact.after l) m rr ours now e h
-tied-next MetricsCall.«reset_for_rekey» l m e h = rw e (record { near = rw (rekeyed-estimator m) (h .near); same = rekeyed-saved m })
+pub tied-next : (c : MetricsCall) (l : List MetricsCall) (m : MmpMetrics) → metricsStep c m .refusal ≡ 0 → Tied l m → Tied (c ∷ l) (metricsStep c m .state)
+unfolding metricsStep rekeyOf reverseOf exact.keptAfter exact.tripsMs exact.processed
+tied-next (MetricsCall.«process_receiver_report» rr ours now) l m e h = process-tied l m rr ours now e h
+tied-next MetricsCall.«reset_for_rekey» l m e h =
+    rw e (record { estimate = ap estimateIn (rekeyed-estimator m) ∙ h .estimate; kept = rekeyed-saved m; seen = rekeyed-seen m ∙ h .seen })
 tied-next (MetricsCall.«update_reverse_delivery» packets highest) l m e h =
     let left = reversed-leaves m packets highest in
-    rw e (record { near = rw (left .0) (h .near); same = left .1 ∙ h .same })
-tied-next MetricsCall.«reports_seen» l m e h = h
-tied-next (MetricsCall.ask q) l m e h = h
+    rw e (record { estimate = ap estimateIn (left .0) ∙ h .estimate; kept = left .1 ∙ h .kept; seen = reversed-seen m packets highest ∙ h .seen })
+tied-next MetricsCall.«reports_seen» l m e h = record { estimate = h .estimate; kept = h .kept; seen = h .seen }
+tied-next (MetricsCall.ask q) l m e h = record { estimate = h .estimate; kept = h .kept; seen = h .seen }

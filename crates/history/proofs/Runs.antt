@@ -1,10 +1,9 @@
 -- The two inductions over a list of calls, for any machine whose refused calls hand the records back as they were: what every accepted call keeps
 -- holds at the end, and calls that may be struck out leave every other answer.
--- Assumes nothing.
 use mathlib.Core.Path.{_≡_, refl, ap₂}
 use mathlib.Core.Logic.{_≢_}
-use mathlib.Core.Bool.{Bool, true, false, _&&_}
-use mathlib.Core.List.{List, [], _∷_, map}
+use mathlib.Core.Bool.{Bool, true, false, cond, _&&_}
+use mathlib.Core.List.{List, [], _∷_}
 use Prim.Native.Nat.{ℕ, zero, suc}
 use native.Mathlib.Omega.{arith}
 use Rattle.refusals.proofs.Clauses.{right}
@@ -16,15 +15,17 @@ use Rattle.history.specs.Run.{
   all-cons,
   noted,
   entry,
-  entries,
-  final,
-  remembered,
-  calls,
-  leave,
-  cut,
+  written,
+  reached,
+  accepted,
   notFull,
+  Left,
   Shown,
-  shown,
+  left,
+  struckOut,
+  callsLeft,
+  asTheyWere,
+  restored,
 }
 
 module _ (𝓜 : Machine)
@@ -40,72 +41,79 @@ module _ (𝓜 : Machine)
       go zero e = tied-next c x w f e t
       go (suc n) e = rw (still c w (λ z. absurd (omega arith))) t
 
-  pub tied-run : (h : List (𝓜 .Call)) {x : 𝓜 .Log} {w : 𝓜 .World} → All (𝓜 .Fits) h → Tied x w → Tied (remembered 𝓜 x (entries 𝓜 w x h)) (final 𝓜 w h)
-  unfolding entries final remembered
+  pub tied-run : (h : List (𝓜 .Call)) {x : 𝓜 .Log} {w : 𝓜 .World} → All (𝓜 .Fits) h → Tied x w → Tied (accepted 𝓜 x (written 𝓜 w x h)) (reached 𝓜 w h)
+  unfolding written reached accepted
   tied-run [] fs t = t
   tied-run (c ∷ h) {x} {w} (all-cons f fs) t = tied-run h fs (tied-step c x w f t)
 
   -- what follows of each answer holds of all
   pub all-run :
       (P : Entry 𝓜 → Type 0) →
-      ((c : 𝓜 .Call) (x : 𝓜 .Log) (w : 𝓜 .World) → 𝓜 .Fits c → Tied x w → P (entry 𝓜 c w x)) →
+      ((c : 𝓜 .Call) (x : 𝓜 .Log) (w : 𝓜 .World) → Tied x w → P (entry 𝓜 c w x)) →
       (h : List (𝓜 .Call)) {x : 𝓜 .Log} {w : 𝓜 .World} →
       All (𝓜 .Fits) h →
       Tied x w →
-      All P (entries 𝓜 w x h)
-  unfolding entries
+      All P (written 𝓜 w x h)
+  unfolding written
   all-run P one [] fs t = all-nil
-  all-run P one (c ∷ h) {x} {w} (all-cons f fs) t = all-cons (one c x w f t) (all-run P one h fs (tied-step c x w f t))
+  all-run P one (c ∷ h) {x} {w} (all-cons f fs) t = all-cons (one c x w t) (all-run P one h fs (tied-step c x w f t))
 
-  -- two runs side by side: Like w v, where v has had some calls fewer
-  module _ (Like : 𝓜 .World → 𝓜 .World → Type 0) (may : Entry 𝓜 → Bool) (blank : 𝓜 .Call → 𝓜 .Answer → 𝓜 .Answer)
-      (refused-alike : (c : 𝓜 .Call) (w v : 𝓜 .World) → Like w v → 𝓜 .step c w .refusal ≢ 10 → 𝓜 .step c v .refusal ≡ 𝓜 .step c w .refusal)
-      (answered-alike : (c : 𝓜 .Call) (w v : 𝓜 .World) → Like w v → 𝓜 .step c v .refusal ≡ 𝓜 .step c w .refusal → blank c (𝓜 .step c v .answer) ≡ blank c (𝓜 .step c w .answer))
-      (moved-alike : (c : 𝓜 .Call) (w v : 𝓜 .World) → Like w v → 𝓜 .step c w .refusal ≡ 0 → 𝓜 .step c v .refusal ≡ 0 → Like (𝓜 .step c w .state) (𝓜 .step c v .state))
-      (idle : (c : 𝓜 .Call) (x : 𝓜 .Log) (w v : 𝓜 .World) → Tied x w → Like w v → may (entry 𝓜 c w x) ≡ true → Like (𝓜 .step c w .state) v) where
-    pub record Same (v w : 𝓜 .World) (y : 𝓜 .Log) (left : List (Entry 𝓜)) (h : List (𝓜 .Call)) : Type 0 where
-      pub answers : map (shown 𝓜 blank) (entries 𝓜 v y (calls 𝓜 left)) ≡ map (shown 𝓜 blank) left
-      pub records : Like (final 𝓜 w h) (final 𝓜 v (calls 𝓜 left))
+  -- two runs side by side: Like t w v, where v has had the calls t fewer
+  module _ {Struck : Type 0} (more : 𝓜 .Call → Struck → Struck) (may : Entry 𝓜 → Bool) (restore : Struck → 𝓜 .Call → 𝓜 .Answer → 𝓜 .Answer)
+      (Like : Struck → 𝓜 .World → 𝓜 .World → Type 0)
+      (refused-alike : (c : 𝓜 .Call) (t : Struck) (w v : 𝓜 .World) → Like t w v → 𝓜 .step c w .refusal ≢ 10 → 𝓜 .step c v .refusal ≡ 𝓜 .step c w .refusal)
+      (answered-alike : (c : 𝓜 .Call) (t : Struck) (x : 𝓜 .Log) (w v : 𝓜 .World) → Tied x w → Like t w v → 𝓜 .step c v .refusal ≡ 𝓜 .step c w .refusal → restore t c (𝓜 .step c v .answer) ≡ 𝓜 .step c w .answer)
+      (moved-alike : (c : 𝓜 .Call) (t : Struck) (w v : 𝓜 .World) → Like t w v → 𝓜 .step c w .refusal ≡ 0 → 𝓜 .step c v .refusal ≡ 0 → Like t (𝓜 .step c w .state) (𝓜 .step c v .state))
+      (idle : (c : 𝓜 .Call) (t : Struck) (x : 𝓜 .Log) (w v : 𝓜 .World) → Tied x w → Like t w v → may (entry 𝓜 c w x) ≡ true → Like (more c t) (𝓜 .step c w .state) v) where
+    pub record Same (v w : 𝓜 .World) (y : 𝓜 .Log) (ls : List (Left 𝓜 Struck)) (t : Struck) (h : List (𝓜 .Call)) : Type 0 where
+      pub answers : restored 𝓜 restore ls (written 𝓜 v y (callsLeft 𝓜 ls)) ≡ asTheyWere 𝓜 ls
+      pub records : Like t (reached 𝓜 w h) (reached 𝓜 v (callsLeft 𝓜 ls))
 
-    state-alike : (c : 𝓜 .Call) (w v : 𝓜 .World) → Like w v → 𝓜 .step c v .refusal ≡ 𝓜 .step c w .refusal → Like (𝓜 .step c w .state) (𝓜 .step c v .state)
-    state-alike c w v l e = go (𝓜 .step c w .refusal) refl e
+    state-alike : (c : 𝓜 .Call) (t : Struck) (w v : 𝓜 .World) → Like t w v → 𝓜 .step c v .refusal ≡ 𝓜 .step c w .refusal → Like t (𝓜 .step c w .state) (𝓜 .step c v .state)
+    state-alike c t w v l e = go (𝓜 .step c w .refusal) refl e
       where
-        go : (n : ℕ) → 𝓜 .step c w .refusal ≡ n → 𝓜 .step c v .refusal ≡ n → Like (𝓜 .step c w .state) (𝓜 .step c v .state)
-        go zero p q = moved-alike c w v l p q
+        go : (n : ℕ) → 𝓜 .step c w .refusal ≡ n → 𝓜 .step c v .refusal ≡ n → Like t (𝓜 .step c w .state) (𝓜 .step c v .state)
+        go zero p q = moved-alike c t w v l p q
         go (suc n) p q = rw (still c w (λ z. absurd (omega arith)), still c v (λ z. absurd (omega arith))) l
 
     -- the log of the second run, y, is its own
     pub strike-run :
-        (h : List (𝓜 .Call)) (struck : ℕ → Bool) (x y : 𝓜 .Log) (w v : 𝓜 .World) →
+        (h : List (𝓜 .Call)) (places : ℕ → Bool) (t : Struck) (x y : 𝓜 .Log) (w v : 𝓜 .World) →
         All (𝓜 .Fits) h →
         Tied x w →
-        Like w v →
-        All (notFull 𝓜) (entries 𝓜 w x h) →
-        Same v w y (cut 𝓜 may struck (entries 𝓜 w x h)) h
-    unfolding entries final cut
-    strike-run [] struck x y w v fs t l full = record { answers = refl; records = l }
-    strike-run (c ∷ h) struck x y w v (all-cons f fs) t l (all-cons ne full) =
-        go (struck 0 && may (entry 𝓜 c w x)) refl
-        (λ l′. strike-run h (λ i. struck (suc i)) (noted 𝓜 c (𝓜 .step c w .refusal) x) y (𝓜 .step c w .state) v fs (tied-step c x w f t) l′ full)
-        (λ l′. strike-run h (λ i. struck (suc i)) (noted 𝓜 c (𝓜 .step c w .refusal) x) (noted 𝓜 c (𝓜 .step c v .refusal) y) (𝓜 .step c w .state) (𝓜 .step c v .state) fs (tied-step c x w f t) l′ full)
+        Like t w v →
+        All (notFull 𝓜) (written 𝓜 w x h) →
+        Same v w y (left 𝓜 more may places t (written 𝓜 w x h)) (struckOut 𝓜 more may places t (written 𝓜 w x h)) h
+    unfolding written reached left struckOut restored
+    strike-run [] places t x y w v fs tied l full = record { answers = refl; records = l }
+    strike-run (c ∷ h) places t x y w v (all-cons f fs) tied l (all-cons ne full) =
+        go (places 0 && may (entry 𝓜 c w x)) refl
+        (λ l′. strike-run h (λ i. places (suc i)) (more c t) (noted 𝓜 c (𝓜 .step c w .refusal) x) y (𝓜 .step c w .state) v fs (tied-step c x w f tied) l′ full)
+        (λ l′. strike-run h (λ i. places (suc i)) t (noted 𝓜 c (𝓜 .step c w .refusal) x) (noted 𝓜 c (𝓜 .step c v .refusal) y) (𝓜 .step c w .state) (𝓜 .step c v .state) fs (tied-step c x w f tied) l′ full)
       where
-        left : List (Entry 𝓜)
-        left = cut 𝓜 may (λ i. struck (suc i)) (entries 𝓜 (𝓜 .step c w .state) (noted 𝓜 c (𝓜 .step c w .refusal) x) h)
+        rest : List (Entry 𝓜)
+        rest = written 𝓜 (𝓜 .step c w .state) (noted 𝓜 c (𝓜 .step c w .refusal) x) h
+
+        leftBy : Struck → List (Left 𝓜 Struck)
+        leftBy s = left 𝓜 more may (λ i. places (suc i)) s rest
+
+        struckBy : Struck → Struck
+        struckBy s = struckOut 𝓜 more may (λ i. places (suc i)) s rest
 
         go :
             (b : Bool) →
-            (struck 0 && may (entry 𝓜 c w x)) ≡ b →
-            (Like (𝓜 .step c w .state) v → Same v (𝓜 .step c w .state) y left h) →
-            (Like (𝓜 .step c w .state) (𝓜 .step c v .state) → Same (𝓜 .step c v .state) (𝓜 .step c w .state) (noted 𝓜 c (𝓜 .step c v .refusal) y) left h) →
-            Same v w y (leave 𝓜 b (entry 𝓜 c w x) left) (c ∷ h)
+            (places 0 && may (entry 𝓜 c w x)) ≡ b →
+            (Like (more c t) (𝓜 .step c w .state) v → Same v (𝓜 .step c w .state) y (leftBy (more c t)) (struckBy (more c t)) h) →
+            (Like t (𝓜 .step c w .state) (𝓜 .step c v .state) → Same (𝓜 .step c v .state) (𝓜 .step c w .state) (noted 𝓜 c (𝓜 .step c v .refusal) y) (leftBy t) (struckBy t) h) →
+            Same v w y (cond b (leftBy (more c t)) (record { entry = entry 𝓜 c w x; struck = t } ∷ leftBy t)) (cond b (struckBy (more c t)) (struckBy t)) (c ∷ h)
         go true p ih-struck ih-kept =
-            let r = ih-struck (idle c x w v t l (right (struck 0) _ p)) in
+            let r = ih-struck (idle c t x w v tied l (right (places 0) _ p)) in
             record { answers = r .answers; records = r .records }
         go false p ih-struck ih-kept =
-            let e : 𝓜 .step c v .refusal ≡ 𝓜 .step c w .refusal = refused-alike c w v l ne in
-            let r = ih-kept (state-alike c w v l e) in
-            let head : shown 𝓜 blank (entry 𝓜 c v y) ≡ shown 𝓜 blank (entry 𝓜 c w x) =
-            λ i. record { call = c; refusal = e i; answer = answered-alike c w v l e i } in
+            let e : 𝓜 .step c v .refusal ≡ 𝓜 .step c w .refusal = refused-alike c t w v l ne in
+            let r = ih-kept (state-alike c t w v l e) in
+            let head : _≡_ {A = Shown 𝓜} (record { call = c; refusal = 𝓜 .step c v .refusal; answer = restore t c (𝓜 .step c v .answer) }) (record { call = c; refusal = 𝓜 .step c w .refusal; answer = 𝓜 .step c w .answer }) =
+            λ i. record { call = c; refusal = e i; answer = answered-alike c t x w v tied l e i } in
             record {
               answers = ap₂ (λ (a : Shown 𝓜) (s : List (Shown 𝓜)). a ∷ s) head (r .answers);
               records = r .records;

@@ -45,18 +45,19 @@ endStep (on-metrics c) e =
     let r = metricsStep c (e .metrics) in
     record { refusal = r .refusal; answer = r .answer; state = record { sender = e .sender; receiver = e .receiver; metrics = r .state } }
 
--- the accepted calls on an end's receiver and metrics, the latest first
+-- the accepted calls on each record of an end
 pub record Log : Type 0 where
+  pub sender : List SenderCall
   pub receiver : List ReceiverCall
   pub metrics : List MetricsCall
 
 abbrev pub noCalls : Log
-noCalls = record { receiver = []; metrics = [] }
+noCalls = record { sender = []; receiver = []; metrics = [] }
 
 abbrev pub endNote : EndCall → Log → Log
-endNote (on-sender c) x = x
-endNote (on-receiver c) x = record { receiver = c ∷ x .receiver; metrics = x .metrics }
-endNote (on-metrics c) x = record { receiver = x .receiver; metrics = c ∷ x .metrics }
+endNote (on-sender c) x = record { sender = c ∷ x .sender; receiver = x .receiver; metrics = x .metrics }
+endNote (on-receiver c) x = record { sender = x .sender; receiver = c ∷ x .receiver; metrics = x .metrics }
+endNote (on-metrics c) x = record { sender = x .sender; receiver = x .receiver; metrics = c ∷ x .metrics }
 
 -- the arguments fit their types: any fourteen numbers of a report, any u32, any two u64. Of every other call nothing is asked
 abbrev pub metricsFits : MetricsCall → Type 0

@@ -1,17 +1,14 @@
--- The exact jitter average of the calls on a receiver: document 01, "The exact averages round nothing". It is fed the arguments of the calls that were
--- not refused, the oldest first in the fold and the latest at the head of the list, and no record. Definitions only.
-use mathlib.Core.Bool.{true, false, cond}
-use mathlib.Core.List.{List, [], _∷_}
-use Prim.Native.Nat.{ℕ, _+_, _-_}
-use lib.IntN.{natAbs}
-use Rattle.numbers.specs.Jitter.{JitterAverage, noJitter, jitterAverageStep}
-use Rattle.refusals.specs.declared.option.OptionU64.{OptionU64}
-use Rattle.refusals.specs.declared.option.OptionU64.the-variants.{None, Some}
-use Rattle.samples.specs.Transit.{inGrace, transit}
-use Rattle.receiver.specs.State.{grace}
+-- The delay differences that the frames of a receiver give to jitter, read off the arguments of the calls that were not refused, and no record: document 01,
+-- "Jitter, delay trend and bursts" and "The exact averages round nothing". Definitions only.
+use mathlib.Core.Bool.{Bool, true, false, cond}
+use mathlib.Core.List.{List, [], _∷_, _++_}
+use Prim.Native.Nat.{ℕ, _+_, _-_, _%_, _^_}
+use lib.Dec.{ltb}
+use lib.IntN.{ℤ, pos, negsuc, _+ℤ_, _-ℤ_, _*ℤ_}
 use Rattle.history.specs.ReceiverCalls.{ReceiverCall}
 
--- what a call is to the average: a sampled frame with its timestamp and clock, a rekey with its clock, or nothing
+-- ---- what a call is to the jitter
+-- a sampled frame with its timestamp and clock, a rekey with its clock, or nothing
 pub data Heard : Type 0 where
   sampled : ℕ → ℕ → Heard
   rekeyed : ℕ → Heard
@@ -27,38 +24,63 @@ heard (ReceiverCall.«update_report_interval_from_srtt» srtt) = unheard
 heard (ReceiverCall.«update_report_interval_with_bounds» srtt lo hi) = unheard
 heard (ReceiverCall.ask q) = unheard
 
--- the last sampled frame: when it came, and its timestamp
+-- ---- grace: "A sample before the rekey deadline (rekey time + 15,000) updates neither jitter nor trend .. The first sample at or past it clears the grace"
+pub data Grace : Type 0 where
+  no-grace : Grace
+  until : ℕ → Grace
+
+unfoldable pub before : Grace → ℕ → Bool
+before no-grace now = false
+before (until deadline) now = ltb now deadline
+
+unfoldable pub graceBy : Heard → Grace → Grace
+graceBy (sampled timestamp now) g = cond (before g now) g no-grace
+graceBy (rekeyed now) g = until (now + 15000)
+graceBy unheard g = g
+
+unfoldable pub graceAfter : List ReceiverCall → Grace
+graceAfter [] = no-grace
+graceAfter (c ∷ l) = graceBy (heard c) (graceAfter l)
+
+-- ---- the frame that the next one is measured from: the last one sampled, in grace too ("but does update the echo"), since the last rekey
 pub data Last : Type 0 where
   no-frame : Last
   frame : ℕ → ℕ → Last
 
--- what the average goes by: the last sampled frame, the deadline of a grace, and A
-pub record Exact : Type 0 where
-  pub last : Last
-  pub deadline : OptionU64
-  pub average : JitterAverage
+unfoldable pub lastBy : Heard → Last → Last
+lastBy (sampled timestamp now) f = frame now timestamp
+lastBy (rekeyed now) f = no-frame
+lastBy unheard f = f
 
--- "0 when new and after each of its rekeys"
-abbrev pub new : Exact
-new = record { last = no-frame; deadline = None; average = noJitter }
+unfoldable pub lastAfter : List ReceiverCall → Last
+lastAfter [] = no-frame
+lastAfter (c ∷ l) = lastBy (heard c) (lastAfter l)
 
--- "Each D, after reduction, .. makes A into A + (|D| − A)/16": a frame after another gives one, the receive step 0 if the clock fell
-unfoldable pub given : Last → ℕ → ℕ → JitterAverage → JitterAverage
-given no-frame timestamp now a = a
-given (frame recv before) timestamp now a = jitterAverageStep a (natAbs (transit (now - recv) timestamp before))
+-- ---- D
+-- what is left of z over whole spans of 2^32: 0 to 2^32 − 1
+unfoldable pub overSpans : ℤ → ℕ
+overSpans (pos n) = n % 2 ^ 32
+overSpans (negsuc n) = 2 ^ 32 - 1 - n % 2 ^ 32
 
--- "A sample before the rekey deadline updates neither jitter nor trend, but does update the echo. The first sample at or past it clears the grace."
-unfoldable pub step : Heard → Exact → Exact
-step (sampled timestamp now) x =
-    record {
-      last = frame now timestamp;
-      deadline = cond (inGrace (x .deadline) now) (x .deadline) None;
-      average = cond (inGrace (x .deadline) now) (x .average) (given (x .last) timestamp now (x .average));
-    }
-step (rekeyed now) x = record { last = no-frame; deadline = Some (now + grace); average = noJitter }
-step unheard x = x
+-- "reduced to signed 32 bits": −2^31 to 2^31 − 1, whole spans of 2^32 from z
+unfoldable pub reduced : ℤ → ℤ
+reduced z = pos (overSpans (z +ℤ pos (2 ^ 31))) -ℤ pos (2 ^ 31)
 
--- after the accepted calls of a list, the latest first
-unfoldable pub after : List ReceiverCall → Exact
-after [] = new
-after (c ∷ l) = step (heard c) (after l)
+-- "D = 1000 × (receive step, 0 if the clock fell, minus sender timestamp step), reduced to signed 32 bits"
+unfoldable pub difference : ℕ → ℕ → ℕ → ℕ → ℤ
+difference recv sent now timestamp = reduced (pos 1000 *ℤ (pos (now - recv) -ℤ (pos timestamp -ℤ pos sent)))
+
+-- a frame after another gives one
+unfoldable pub differenceFrom : Last → ℕ → ℕ → List ℤ
+differenceFrom no-frame now timestamp = []
+differenceFrom (frame recv sent) now timestamp = difference recv sent now timestamp ∷ []
+
+-- ---- the differences since the last rekey, the first one first
+unfoldable pub differencesBy : Heard → Grace → Last → List ℤ → List ℤ
+differencesBy (sampled timestamp now) g f ds = cond (before g now) ds (ds ++ differenceFrom f now timestamp)
+differencesBy (rekeyed now) g f ds = []
+differencesBy unheard g f ds = ds
+
+unfoldable pub differences : List ReceiverCall → List ℤ
+differences [] = []
+differences (c ∷ l) = differencesBy (heard c) (graceAfter l) (lastAfter l) (differences l)

@@ -5,5 +5,7 @@ pub mod ReceiverCalls
 pub mod MetricsCalls
 pub mod ExactJitter
 pub mod ExactRoundTrip
+pub mod Recount
 pub mod Ends
+pub mod Asked
 pub mod NoCreep

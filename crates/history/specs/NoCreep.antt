@@ -1,25 +1,34 @@
--- THE STATEMENT: link figures don't creep, whatever calls two ends have had (demand 3). One statement about the whole list.
--- Definitions only; `no-creep` in proofs/ proves it for every list.
+-- THE STATEMENT: link figures don't creep, whatever calls two ends have had (demand 3). One statement about the whole list, `NoCreepHolds`; `no-creep` in
+-- proofs/ proves it. Definitions only.
 use mathlib.Core.Path.{_≡_}
-use mathlib.Core.Bool.{Bool, true, false}
+use mathlib.Core.Logic.{_≢_}
+use mathlib.Core.Bool.{Bool, true, false, cond}
 use mathlib.Core.List.{List, map}
-use Prim.Native.Nat.{ℕ, zero, suc, _^_}
+use Prim.Native.Nat.{ℕ, zero, suc, _+_, _^_}
+use lib.IntN.{ℤ, pos, negsuc, natAbs}
+use lib.Ieee.{Float, binary64, le, ofInt}
 use lib.ListN.{drop}
-use Rattle.numbers.specs.Bounds.{Above, Within}
-use Rattle.numbers.specs.Jitter.{JitterAverage}
-use Rattle.numbers.specs.RoundTrip.{Beside}
-use Rattle.refusals.specs.Ranges.{ratioOk, etxOk}
+use Rattle.numbers.specs.Bounds.{Within, smoothedBound, variationBound, jitterBound}
+use Rattle.numbers.specs.Jitter.{JitterAverage, jitterAverageOf}
+use Rattle.numbers.specs.RoundTrip.{Estimate, no-estimate, estimate, averageOf, SmoothedAbove, VariationWithin}
 use Rattle.wire.specs.ReceiverReport.{encodeAnswer, encodedInto, decoded}
 use Rattle.wire.specs.declared.receiver_report.ReceiverReport.{ReceiverReport}
-use Rattle.algorithms.specs.Srtt.{estimateIn}
-use Rattle.metrics.specs.Fields.{withSeen}
+use Rattle.algorithms.specs.declared.srtt.SrttEstimator.{SrttEstimator}
+use Rattle.sender.specs.State as senders
+use Rattle.receiver.specs.State as receivers
+use Rattle.metrics.specs.State as metrics
 use Rattle.metrics.specs.declared.MmpMetrics.{MmpMetrics}
-use Rattle.history.specs.Run.{Entry, All, entries, final, remembered, calls, cut, notFull, shown}
+use Rattle.history.specs.Run as run
+use Rattle.history.specs.Run.{Entry, Left, All, runOf, notFull, callsLeft, asTheyWere, restored}
 use Rattle.history.specs.Answers.{Fact, Answer}
-use Rattle.history.specs.MetricsCalls.{MetricsCall}
-use Rattle.history.specs.ExactJitter as jitter
-use Rattle.history.specs.ExactRoundTrip as roundTrip
-use Rattle.history.specs.Ends.{End, EndNew, newEnd, EndCall, on-sender, on-receiver, on-metrics, Log, noCalls, Side, Two, at, Call, ends}
+use Rattle.history.specs.SenderCalls.{newSender, senderStep}
+use Rattle.history.specs.ReceiverCalls.{ReceiverCall, newReceiver, receiverStep}
+use Rattle.history.specs.MetricsCalls.{MetricsCall, newMetrics, metricsStep}
+use Rattle.history.specs.Asked.{Served, endYes}
+use Rattle.history.specs.ExactJitter.{differences}
+use Rattle.history.specs.ExactRoundTrip as exact
+use Rattle.history.specs.Recount.{recounted}
+use Rattle.history.specs.Ends.{End, EndNew, newEnd, EndCall, on-sender, on-receiver, on-metrics, Log, noCalls, Side, Two, at, put, Call, ends}
 
 -- ---- "Begin two ends new", by any constructors with any arguments
 abbrev pub begun : Two EndNew → Two End
@@ -30,93 +39,166 @@ noneYet = record { west = noCalls; east = noCalls }
 
 -- ---- "every list of calls on them": written out, the records at its end, and the calls that were not refused
 abbrev pub written : Two EndNew → List Call → List (Entry ends)
-written k h = entries ends (begun k) noneYet h
+written k h = run.written ends (begun k) noneYet h
 
 abbrev pub reached : Two EndNew → List Call → Two End
-reached k h = final ends (begun k) h
+reached k h = run.reached ends (begun k) h
 
 abbrev pub accepted : Two EndNew → List Call → Two Log
-accepted k h = remembered ends noneYet (written k h)
+accepted k h = run.accepted ends noneYet (written k h)
+
+-- ---- each record is what the accepted calls on it reach by themselves
+pub record Alone (n : EndNew) (x : Log) (e : End) : Type 0 where
+  pub sender : e .sender ≡ runOf senderStep (newSender (n .sender)) (x .sender)
+  pub receiver : e .receiver ≡ runOf receiverStep (newReceiver (n .receiver)) (x .receiver)
+  pub metrics : e .metrics ≡ runOf metricsStep (newMetrics (n .metrics)) (x .metrics)
+
+-- ---- document 01, "State rule", of an end's three records
+pub record Rules (e : End) : Type 0 where
+  pub sender : senders.keepsRule (e .sender) ≡ true
+  pub receiver : receivers.keepsRule (e .receiver) ≡ true
+  pub metrics : metrics.keepsRule (e .metrics) ≡ true
+
+-- so no call is refused by 1; and one whose own arguments answer the questions yes is accepted, unless a counter is full
+abbrev pub NotByRule : Entry ends → Type 0
+NotByRule n = n .refusal ≢ 1
+
+abbrev pub ServedIfYes : Two EndNew → Entry ends → Type 0
+ServedIfYes k n = endYes (at (n .call .side) k) (n .call .call) ≡ true → Served (n .refusal)
 
 -- ---- the figures of a metrics record, beside the exact averages of the calls on it
-pub record FiguresHold (x : roundTrip.Exact) (m : MmpMetrics) : Type 0 where
+-- SRTT and RTTVAR as the record has them, from the first round trip on; the rule lets neither be negative
+abbrev pub µs : ℤ → ℕ
+µs (pos n) = n
+µs (negsuc n) = 0
+
+abbrev pub recorded : SrttEstimator → Estimate
+recorded s = cond (s .initialized) (estimate (µs (s .«srtt_us»)) (µs (s .«rttvar_us»))) no-estimate
+
+-- a float in lo to hi
+pub record Between (lo hi : ℕ) (x : Float) : Type 0 where
+  pub low : le (ofInt binary64 (pos lo)) x ≡ true
+  pub high : le x (ofInt binary64 (pos hi)) ≡ true
+
+pub record FiguresHold (l : List MetricsCall) (m : MmpMetrics) : Type 0 where
   -- "smoothed round trip is never below the exact RFC 6298 average and less than 7 µs above it", over 8^n, from the first round trip on
-  pub smoothed : Beside (λ n S W s v. Above 7 (8 ^ n) S s) (x .average) (estimateIn (m .srtt))
+  pub smoothed : SmoothedAbove smoothedBound (averageOf (exact.roundTrips l)) (recorded (m .srtt))
   -- "its variation is less than 10 µs off"
-  pub variation : Beside (λ n S W s v. Within 10 (8 ^ n) W v) (x .average) (estimateIn (m .srtt))
+  pub variation : VariationWithin variationBound (averageOf (exact.roundTrips l)) (recorded (m .srtt))
   -- "delivery ratios are in 0 to 1 and ETX in 1 to 100"
-  pub forward : ratioOk (m .«delivery_ratio_forward») ≡ true
-  pub reverse : ratioOk (m .«delivery_ratio_reverse») ≡ true
-  pub etx : etxOk (m .etx) ≡ true
+  pub forward : Between 0 1 (m .«delivery_ratio_forward»)
+  pub reverse : Between 0 1 (m .«delivery_ratio_reverse»)
+  pub etx : Between 1 100 (m .etx)
+  -- reports seen are the reports processed, refused ones left out
+  pub seen : m .«reports_seen» ≡ exact.processed l
 
 -- ---- "jitter in each decoded report is less than 1 µs from the exact RFC 3550 average at its building"
+-- A: "0 when new and after each of its rekeys", then of every |D|
+abbrev pub jitterAverage : List ReceiverCall → JitterAverage
+jitterAverage l = jitterAverageOf (map natAbs (differences l))
+
 -- decoded from the bytes that it is encoded to, in whichever buffer has room for them; over 16^n
 pub record JitterHolds (a : JitterAverage) (rr : ReceiverReport) (out : List ℕ) : Type 0 where
   pub taken : decoded (drop 1 (encodedInto out rr)) .refusal ≡ 0
-  pub near : Within 1 (16 ^ (a .n)) (a .top) (decoded (drop 1 (encodedInto out rr)) .report .jitter)
+  pub near : Within jitterBound (16 ^ (a .n)) (a .top) (decoded (drop 1 (encodedInto out rr)) .report .jitter)
 
 -- where the answer is a report: A is the average of the calls that its receiver had before
-abbrev pub EntryHolds : Entry ends → Type 0
-EntryHolds n =
+abbrev pub ReportHolds : Entry ends → Type 0
+ReportHolds n =
     (rr : ReceiverReport) →
     n .answer ≡ Answer.receiver-report true rr →
     (out : List ℕ) →
     encodeAnswer out ≡ 0 →
-    JitterHolds (jitter.after (at (n .call .side) (n .before) .receiver) .average) rr out
+    JitterHolds (jitterAverage (at (n .call .side) (n .before) .receiver)) rr out
 
 -- ---- "Strike out any stale reports from the list"
 -- a report processed, not refused, and stale beside the report kept in the list's own sense
 abbrev pub staleCall : EndCall → Log → Bool
 staleCall (on-sender c) x = false
 staleCall (on-receiver c) x = false
-staleCall (on-metrics c) x = roundTrip.isStale c (x .metrics)
+staleCall (on-metrics c) x = exact.isStale c (x .metrics)
 
-abbrev pub staleUnless : ℕ → Bool → Bool
-staleUnless zero b = b
-staleUnless (suc n) b = false
+abbrev pub unlessRefused : ℕ → Bool → Bool
+unlessRefused zero b = b
+unlessRefused (suc n) b = false
 
 abbrev pub isStale : Entry ends → Bool
-isStale n = staleUnless (n .refusal) (staleCall (n .call .call) (at (n .call .side) (n .before)))
+isStale n = unlessRefused (n .refusal) (staleCall (n .call .call) (at (n .call .side) (n .before)))
 
--- the entries left when the stale ones at the struck places, one, some or all, are taken out
-abbrev pub left : Two EndNew → (ℕ → Bool) → List Call → List (Entry ends)
-left k struck h = cut ends isStale struck (written k h)
+-- how many were struck out at each end
+abbrev pub oneMore : Call → Two ℕ → Two ℕ
+oneMore c t = put (c .side) (at (c .side) t + 1) t
 
--- "but for the count of reports seen": set to 0 in the answer of its accessor and in a record
-abbrev pub blankMetrics : MetricsCall → Answer → Answer
-blankMetrics MetricsCall.«reports_seen» a = Answer.told (Fact.number 0)
-blankMetrics (MetricsCall.«process_receiver_report» rr ours now) a = a
-blankMetrics MetricsCall.«reset_for_rekey» a = a
-blankMetrics (MetricsCall.«update_reverse_delivery» packets highest) a = a
-blankMetrics (MetricsCall.ask q) a = a
+abbrev pub noneStruck : Two ℕ
+noneStruck = record { west = 0; east = 0 }
 
-abbrev pub blankEnd : EndCall → Answer → Answer
-blankEnd (on-sender c) a = a
-blankEnd (on-receiver c) a = a
-blankEnd (on-metrics c) a = blankMetrics c a
+-- the entries left when the stale ones at the places given, one, some or all, are taken out
+abbrev pub left : Two EndNew → (ℕ → Bool) → List Call → List (Left ends (Two ℕ))
+left k places h = run.left ends oneMore isStale places noneStruck (written k h)
 
-abbrev pub blank : Call → Answer → Answer
-blank c a = blankEnd (c .call) a
+abbrev pub struckOut : Two EndNew → (ℕ → Bool) → List Call → Two ℕ
+struckOut k places h = run.struckOut ends oneMore isStale places noneStruck (written k h)
 
-abbrev pub blankRecord : End → End
-blankRecord e = record { sender = e .sender; receiver = e .receiver; metrics = withSeen (e .metrics) 0 }
+-- "but for the count of reports seen": it is lower by what was struck out before at that end. Put back in its accessor's answer ..
+abbrev pub raisedFact : ℕ → Fact → Fact
+raisedFact d (Fact.number n) = Fact.number (n + d)
+raisedFact d (Fact.yes-or-no b) = Fact.yes-or-no b
+raisedFact d (Fact.float x) = Fact.float x
+raisedFact d (Fact.optional-number o) = Fact.optional-number o
+raisedFact d (Fact.optional-word o) = Fact.optional-word o
+raisedFact d (Fact.optional-float o) = Fact.optional-float o
+raisedFact d (Fact.counters c) = Fact.counters c
 
-abbrev pub blankRecords : Two End → Two End
-blankRecords w = record { west = blankRecord (w .west); east = blankRecord (w .east) }
+abbrev pub raisedAnswer : ℕ → Answer → Answer
+raisedAnswer d (Answer.told f) = Answer.told (raisedFact d f)
+raisedAnswer d Answer.nothing = Answer.nothing
+raisedAnswer d (Answer.sender-report some r) = Answer.sender-report some r
+raisedAnswer d (Answer.receiver-report some r) = Answer.receiver-report some r
+raisedAnswer d (Answer.windows times delays) = Answer.windows times delays
+raisedAnswer d (Answer.outcome o) = Answer.outcome o
+
+abbrev pub restoreMetrics : ℕ → MetricsCall → Answer → Answer
+restoreMetrics d MetricsCall.«reports_seen» a = raisedAnswer d a
+restoreMetrics d (MetricsCall.«process_receiver_report» rr ours now) a = a
+restoreMetrics d MetricsCall.«reset_for_rekey» a = a
+restoreMetrics d (MetricsCall.«update_reverse_delivery» packets highest) a = a
+restoreMetrics d (MetricsCall.ask q) a = a
+
+abbrev pub restoreEnd : ℕ → EndCall → Answer → Answer
+restoreEnd d (on-sender c) a = a
+restoreEnd d (on-receiver c) a = a
+restoreEnd d (on-metrics c) a = restoreMetrics d c a
+
+abbrev pub restore : Two ℕ → Call → Answer → Answer
+restore t c a = restoreEnd (at (c .side) t) (c .call) a
+
+-- .. and in a record
+abbrev pub restoreRecords : ℕ → End → End
+restoreRecords d e = record { sender = e .sender; receiver = e .receiver; metrics = recounted (e .metrics) (e .metrics .«reports_seen» + d) }
 
 -- ---- the whole
 pub record NoCreep (k : Two EndNew) (h : List Call) : Type 0 where
   -- after the list, at either end
-  pub figures : (s : Side) → FiguresHold (roundTrip.after (at s (accepted k h) .metrics)) (at s (reached k h) .metrics)
+  pub alone : (s : Side) → Alone (at s k) (at s (accepted k h)) (at s (reached k h))
+  pub rules : (s : Side) → Rules (at s (reached k h))
+  pub figures : (s : Side) → FiguresHold (at s (accepted k h) .metrics) (at s (reached k h) .metrics)
+  -- every call
+  pub not-by-rule : All NotByRule (written k h)
+  pub served : All (ServedIfYes k) (written k h)
   -- every report that a receiver in the list built
-  pub reports : All EntryHolds (written k h)
+  pub reports : All ReportHolds (written k h)
   -- "every other answer .. stay[s] as [it was]": answers and refusals, where no call met 10
   pub answers :
-      (struck : ℕ → Bool) →
+      (places : ℕ → Bool) →
       All (notFull ends) (written k h) →
-      map (shown ends blank) (written k (calls ends (left k struck h))) ≡ map (shown ends blank) (left k struck h)
+      restored ends restore (left k places h) (written k (callsLeft ends (left k places h))) ≡ asTheyWere ends (left k places h)
   -- "and the final records stay as they were"
   pub records :
-      (struck : ℕ → Bool) →
+      (places : ℕ → Bool) →
       All (notFull ends) (written k h) →
-      blankRecords (reached k (calls ends (left k struck h))) ≡ blankRecords (reached k h)
+      (s : Side) →
+      restoreRecords (at s (struckOut k places h)) (at s (reached k (callsLeft ends (left k places h)))) ≡ at s (reached k h)
+
+-- for every pair of new ends and every list of calls whose arguments fit their types
+abbrev pub NoCreepHolds : Type 0
+NoCreepHolds = (k : Two EndNew) (h : List Call) → All (ends .Fits) h → NoCreep k h

@@ -1,6 +1,6 @@
 -- Lists of calls on a world of records, each of which may be refused; written out call by call; with calls struck out. Nothing here knows what
--- the calls are. Definitions only.
-use mathlib.Core.Bool.{Bool, true, false, _&&_}
+-- the calls are. A list of calls runs from the first one on; a log of calls that were accepted has the latest first. Definitions only.
+use mathlib.Core.Bool.{Bool, cond, _&&_}
 use mathlib.Core.List.{List, [], _∷_, map}
 use mathlib.Core.Logic.{_≢_}
 use Prim.Native.Nat.{ℕ, zero, suc}
@@ -10,6 +10,11 @@ pub record Step (Answer State : Type 0) : Type 0 where
   pub refusal : ℕ
   pub answer : Answer
   pub state : State
+
+-- the record that a log of calls reaches from a new one, each call getting it as the one before handed it back
+unfoldable pub runOf : {Call Answer State : Type 0} → (Call → State → Step Answer State) → State → List Call → State
+runOf step new [] = new
+runOf step new (c ∷ l) = step c (runOf step new l) .state
 
 -- World holds the records. Log is what is remembered of the calls that were not refused: `note` sees their arguments and never a record.
 pub record Machine : Type 1 where
@@ -44,41 +49,59 @@ module _ (𝓜 : Machine) where
   entry c w x = record { call = c; refusal = 𝓜 .step c w .refusal; answer = 𝓜 .step c w .answer; before = x }
 
   -- the list written out: each call gets the records as the call before handed them back
-  unfoldable pub entries : 𝓜 .World → 𝓜 .Log → List (𝓜 .Call) → List (Entry 𝓜)
-  entries w x [] = []
-  entries w x (c ∷ h) = entry c w x ∷ entries (𝓜 .step c w .state) (noted c (𝓜 .step c w .refusal) x) h
+  unfoldable pub written : 𝓜 .World → 𝓜 .Log → List (𝓜 .Call) → List (Entry 𝓜)
+  written w x [] = []
+  written w x (c ∷ h) = entry c w x ∷ written (𝓜 .step c w .state) (noted c (𝓜 .step c w .refusal) x) h
 
   -- the records at its end
-  unfoldable pub final : 𝓜 .World → List (𝓜 .Call) → 𝓜 .World
-  final w [] = w
-  final w (c ∷ h) = final (𝓜 .step c w .state) h
+  unfoldable pub reached : 𝓜 .World → List (𝓜 .Call) → 𝓜 .World
+  reached w [] = w
+  reached w (c ∷ h) = reached (𝓜 .step c w .state) h
 
   -- what is remembered at its end
-  unfoldable pub remembered : 𝓜 .Log → List (Entry 𝓜) → 𝓜 .Log
-  remembered x [] = x
-  remembered x (n ∷ ns) = remembered (noted (n .call) (n .refusal) x) ns
-
-  abbrev pub calls : List (Entry 𝓜) → List (𝓜 .Call)
-  calls ns = map (λ (n : Entry 𝓜). n .call) ns
-
-  abbrev pub leave : Bool → Entry 𝓜 → List (Entry 𝓜) → List (Entry 𝓜)
-  leave true n ns = ns
-  leave false n ns = n ∷ ns
-
-  -- the entries without those at a struck place that may be struck
-  unfoldable pub cut : (Entry 𝓜 → Bool) → (ℕ → Bool) → List (Entry 𝓜) → List (Entry 𝓜)
-  cut may struck [] = []
-  cut may struck (n ∷ ns) = leave (struck 0 && may n) n (cut may (λ i. struck (suc i)) ns)
+  unfoldable pub accepted : 𝓜 .Log → List (Entry 𝓜) → 𝓜 .Log
+  accepted x [] = x
+  accepted x (n ∷ ns) = accepted (noted (n .call) (n .refusal) x) ns
 
   -- the call did not meet 10
   abbrev pub notFull : Entry 𝓜 → Type 0
   notFull n = n .refusal ≢ 10
 
--- what striking out is to leave of an entry: its call, its refusal, and its answer but for what a struck call raises
+-- ---- striking out
+-- an entry that is left, and what was struck out before it
+pub record Left (𝓜 : Machine) (Struck : Type 0) : Type 0 where
+  pub entry : Entry 𝓜
+  pub struck : Struck
+
+-- a call with its refusal and its answer
 pub record Shown (𝓜 : Machine) : Type 0 where
   pub call : 𝓜 .Call
   pub refusal : ℕ
   pub answer : 𝓜 .Answer
 
-abbrev pub shown : (𝓜 : Machine) → (𝓜 .Call → 𝓜 .Answer → 𝓜 .Answer) → Entry 𝓜 → Shown 𝓜
-shown 𝓜 blank n = record { call = n .call; refusal = n .refusal; answer = blank (n .call) (n .answer) }
+module _ (𝓜 : Machine) {Struck : Type 0} where
+  -- the entries without those at the places given that may be struck; `more` counts one that is
+  module _ (more : 𝓜 .Call → Struck → Struck) (may : Entry 𝓜 → Bool) where
+    unfoldable pub left : (ℕ → Bool) → Struck → List (Entry 𝓜) → List (Left 𝓜 Struck)
+    left places t [] = []
+    left places t (n ∷ ns) =
+        cond (places 0 && may n) (left (λ i. places (suc i)) (more (n .call) t) ns) (record { entry = n; struck = t } ∷ left (λ i. places (suc i)) t ns)
+
+    -- what was struck out in all
+    unfoldable pub struckOut : (ℕ → Bool) → Struck → List (Entry 𝓜) → Struck
+    struckOut places t [] = t
+    struckOut places t (n ∷ ns) = cond (places 0 && may n) (struckOut (λ i. places (suc i)) (more (n .call) t) ns) (struckOut (λ i. places (suc i)) t ns)
+
+  -- the calls that are left, with their arguments
+  abbrev pub callsLeft : List (Left 𝓜 Struck) → List (𝓜 .Call)
+  callsLeft ls = map (λ (l : Left 𝓜 Struck). l .entry .call) ls
+
+  -- what they had answered
+  abbrev pub asTheyWere : List (Left 𝓜 Struck) → List (Shown 𝓜)
+  asTheyWere ls = map (λ (l : Left 𝓜 Struck). record { call = l .entry .call; refusal = l .entry .refusal; answer = l .entry .answer }) ls
+
+  -- what they answer without the others, each answer with what was struck out before it put back by `restore`
+  unfoldable pub restored : (Struck → 𝓜 .Call → 𝓜 .Answer → 𝓜 .Answer) → List (Left 𝓜 Struck) → List (Entry 𝓜) → List (Shown 𝓜)
+  restored restore [] ns = []
+  restored restore (l ∷ ls) [] = []
+  restored restore (l ∷ ls) (n ∷ ns) = record { call = n .call; refusal = n .refusal; answer = restore (l .struck) (n .call) (n .answer) } ∷ restored restore ls ns

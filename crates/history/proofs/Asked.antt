@@ -1,0 +1,81 @@
+-- Which questions a call's refusal comes from: where those of some numbers are answered yes, none of these numbers refuses. So a record that keeps its rule is not
+-- refused by 1, and a call whose arguments answer yes is accepted or meets 10.
+use mathlib.Core.Path.{_≡_, refl, sym, _∙_, ap}
+use mathlib.Core.Logic.{_≢_}
+use mathlib.Core.Bool.{Bool, true, false, cond, not, _&&_, _||_}
+use mathlib.Core.List.{List, [], _∷_}
+use Prim.Native.Nat.{ℕ, _^_, _<_}
+use native.Mathlib.Omega.{arith}
+use lib.Dec.{leb, ltb, eqb}
+use lib.IntN.{ℤ}
+use lib.ListN.{length}
+use borrow.Author.Tests.{ltb-true, le-leb, eqb-true, eqb-false, eq-eqb, not-false}
+use Rattle.refusals.proofs.Clauses.{left, right}
+use Rattle.refusals.specs.Questions.{Question, question, firstNo}
+use Rattle.refusals.specs.Ranges.{maxClock, maxFrame, clockOk, frameSizeOk, counterOk, smoothedOk, boundsOk}
+use Rattle.history.specs.Asked as paper
+use Rattle.history.specs.Asked.{Served}
+
+-- the questions with a number in N are answered yes
+abbrev pub yesTo : (ℕ → Bool) → List Question → Bool
+yesTo N [] = true
+yesTo N (q ∷ qs) = (not (N (q .number)) || q .answer) && yesTo N qs
+
+not-among : (N : ℕ → Bool) (qs : List Question) → N 0 ≡ false → yesTo N qs ≡ true → N (firstNo qs) ≡ false
+unfolding firstNo
+not-among N [] z h = z
+not-among N (q ∷ qs) z h = go (q .answer) (q .number) (left (not (N (q .number)) || q .answer) (yesTo N qs) h) (not-among N qs z (right (not (N (q .number)) || q .answer) (yesTo N qs) h))
+  where
+    none : (b : Bool) → (not b || false) ≡ true → b ≡ false
+    none true e = let z : _≡_ {A = ℕ} 0 1 = cc in absurd (omega arith)
+    none false e = refl
+
+    go : (a : Bool) (n : ℕ) → (not (N n) || a) ≡ true → N (firstNo qs) ≡ false → N (cond a (firstNo qs) n) ≡ false
+    go true n e k = k
+    go false n e k = none (N n) e
+
+-- 1 is answered yes
+abbrev pub one : ℕ → Bool
+one n = eqb n 1
+
+pub not-one : (qs : List Question) → yesTo one qs ≡ true → firstNo qs ≢ 1
+not-one qs h = eqb-false (firstNo qs) 1 (not-among one qs refl h)
+
+-- all but 10 are answered yes
+abbrev pub others : ℕ → Bool
+others n = not (eqb n 0 || eqb n 10)
+
+served-or-full : (n : ℕ) → (eqb n 0 || eqb n 10) ≡ true → Served n
+served-or-full n h = go (eqb n 0) (eqb n 10) (eqb-true n 0) (eqb-true n 10) h
+  where
+    go : (a b : Bool) → (a ≡ true → n ≡ 0) → (b ≡ true → n ≡ 10) → (a || b) ≡ true → Served n
+    go true b f g e = rw (f refl) Served.accepted
+    go false true f g e = rw (g refl) Served.counter-full
+    go false false f g e = let z : _≡_ {A = ℕ} 0 1 = cc in absurd (omega arith)
+
+pub served : (qs : List Question) → yesTo others qs ≡ true → Served (firstNo qs)
+served qs h = served-or-full (firstNo qs) (not-false _ (not-among others qs refl h))
+
+-- ---- what document 01's own ranges say of the code's
+pub clock-yes : (ms : ℕ) → paper.clock ms ≡ true → clockOk ms ≡ true
+clock-yes ms h = let l = ltb-true ms (2 ^ 48) h in le-leb ms maxClock (omega arith)
+
+pub size-yes : (bytes : ℕ) → paper.frameSize bytes ≡ true → frameSizeOk bytes ≡ true
+size-yes bytes h = let l = ltb-true bytes (2 ^ 32) h in le-leb bytes maxFrame (omega arith)
+
+-- questions 1, 2, 8 and 9 of an interval by bounds
+pub record InBounds (us : ℤ) (lo hi : ℕ) : Type 0 where
+  pub clocks : (clockOk lo && clockOk hi) ≡ true
+  pub smoothed : smoothedOk us ≡ true
+  pub order : boundsOk us lo hi ≡ true
+
+pub bounds-yes : (us : ℤ) (lo hi : ℕ) → paper.inBounds us lo hi ≡ true → InBounds us lo hi
+bounds-yes us lo hi h =
+    let c = paper.clock lo && paper.clock hi in
+    let l = left (c && paper.smoothed us) (boundsOk us lo hi) h in
+    let both = left c (paper.smoothed us) l in
+    record {
+      clocks = rw (clock-yes lo (left (paper.clock lo) (paper.clock hi) both), clock-yes hi (right (paper.clock lo) (paper.clock hi) both));
+      smoothed = right c (paper.smoothed us) l;
+      order = right (c && paper.smoothed us) (boundsOk us lo hi) h;
+    }

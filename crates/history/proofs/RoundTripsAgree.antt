@@ -1,0 +1,83 @@
+-- The stale test and the round trip that history's exact side reads off a report are those of `figures`.
+use mathlib.Core.Path.{_≡_, refl, ap₂}
+use mathlib.Core.Bool.{Bool, true, false, cond, _&&_, _||_}
+use mathlib.Core.List.{List, [], _∷_, foldl}
+use Prim.Native.Nat.{ℕ, _+_, _-_, _<_, _≤_}
+use native.Mathlib.Nat.{pos-of-ne-zero}
+use native.Mathlib.Omega.{arith}
+use lib.Dec.{ltb, eqb}
+use borrow.Author.Tests.{ltb-true, ltb-false, eqb-true, eqb-false, lt-ltb, le-ltb}
+use Rattle.numbers.specs.RoundTrip.{multiples, Estimate, estimateStep}
+use Rattle.wire.specs.declared.receiver_report.ReceiverReport.{ReceiverReport}
+use Rattle.figures.specs.Stale as figures
+use Rattle.figures.specs.RoundTrips.{sendDone, roundTrip}
+use Rattle.figures.specs.declared.RoundTrip.the-variants.{NoEcho, Sample, Zero, ArithFail}
+use Rattle.metrics.proofs.RoundTripsTaken.{afterTrip}
+use Rattle.history.specs.ExactRoundTrip as exact
+
+-- the report kept, as a record keeps it
+abbrev pub savedAs : exact.Kept → figures.Saved
+savedAs exact.no-report = figures.none
+savedAs (exact.report rr) = figures.saved (figures.countersOf rr)
+
+one-of-five : (a b c d e : Bool) → (a || b || c || d || e) ≡ (a || (b || (c || (d || (e || false)))))
+one-of-five true b c d e = refl
+one-of-five false true c d e = refl
+one-of-five false false true d e = refl
+one-of-five false false false true e = refl
+one-of-five false false false false true = refl
+one-of-five false false false false false = refl
+
+all-of-five : (a b c d e : Bool) → (a && b && c && d && e) ≡ (a && (b && (c && (d && (e && true)))))
+all-of-five false b c d e = refl
+all-of-five true false c d e = refl
+all-of-five true true false d e = refl
+all-of-five true true true false e = refl
+all-of-five true true true true true = refl
+all-of-five true true true true false = refl
+
+pub stale-agrees : (k : exact.Kept) (rr : ReceiverReport) → figures.stale (savedAs k) rr ≡ exact.stale k rr
+unfolding figures.stale figures.fell figures.same exact.stale exact.oneFell exact.allEqual
+stale-agrees exact.no-report rr = refl
+stale-agrees (exact.report k) rr = ap₂ (λ (a b : Bool). a || b) (five ltb one-of-five) (five eqb all-of-five)
+  where
+    -- of the five tests, one by one
+    five : {P : Bool → Bool → Bool → Bool → Bool → Type 0} (test : ℕ → ℕ → Bool) → ((a b c d e : Bool) → P a b c d e) →
+        P (test (rr .«highest_counter») (k .«highest_counter»)) (test (rr .«cumulative_packets_recv») (k .«cumulative_packets_recv»)) (test (rr .«cumulative_bytes_recv») (k .«cumulative_bytes_recv»)) (test (rr .«ecn_ce_count») (k .«ecn_ce_count»)) (test (rr .«cumulative_reorder_count») (k .«cumulative_reorder_count»))
+    five test law = law _ _ _ _ _
+
+-- a sample's milliseconds are one round trip of 1000 times as many µs; any other echo gives none
+pub trip-agrees : (e : Estimate) (rr : ReceiverReport) (ours : ℕ) → afterTrip e (roundTrip rr ours) ≡ foldl estimateStep e (multiples 1000 (exact.tripMs rr ours))
+unfolding roundTrip exact.tripMs
+trip-agrees e rr ours =
+    go (eqb echo 0) (ltb ours done) (eqb ours done)
+    (eqb-true echo 0) (eqb-false echo 0) (ltb-true ours done) (ltb-false ours done) (eqb-true ours done) (eqb-false ours done)
+  where
+    echo : ℕ
+    echo = rr .«timestamp_echo»
+
+    done : ℕ
+    done = sendDone rr
+
+    given : Bool → Estimate
+    given b = foldl estimateStep e (multiples 1000 (cond b ((ours - done) ∷ []) []))
+
+    none : (a : Bool) → ltb done ours ≡ false → e ≡ given (a && ltb done ours)
+    none true h = rw h
+    none false h = refl
+
+    go :
+        (a b c : Bool) →
+        (a ≡ true → echo ≡ 0) →
+        (a ≡ false → echo ≡ 0 → ⊥) →
+        (b ≡ true → ours < done) →
+        (b ≡ false → done ≤ ours) →
+        (c ≡ true → ours ≡ done) →
+        (c ≡ false → ours ≡ done → ⊥) →
+        afterTrip e (cond a NoEcho (cond b ArithFail (cond c Zero (Sample (ours - done))))) ≡ given (ltb 0 echo && ltb done ours)
+    go true b c no-echo some early late same other = let h = no-echo refl in rw (le-ltb 0 echo (omega arith))
+    go false true c no-echo some early late same other = none (ltb 0 echo) (le-ltb done ours (let h = early refl in omega arith))
+    go false false true no-echo some early late same other = none (ltb 0 echo) (le-ltb done ours (let h = same refl in omega arith))
+    go false false false no-echo some early late same other =
+        let past : done < ours = let a = late refl in let b = other refl in omega arith in
+        rw (lt-ltb 0 echo (pos-of-ne-zero (some refl)), lt-ltb done ours past)
