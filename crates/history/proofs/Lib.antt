@@ -12,3 +12,5 @@ pub mod ReceiverAsked
 pub mod MetricsAsked
 pub mod SeenAside
 pub mod NoCreepHolds
+pub mod RekeySaid
+pub mod ExampleComputed

@@ -8,4 +8,6 @@ pub mod ExactRoundTrip
 pub mod Recount
 pub mod Ends
 pub mod Asked
+pub mod Rekey
 pub mod NoCreep
+pub mod Example
