@@ -5,3 +5,9 @@ pub mod RoundTripTied
 pub mod RulesKept
 pub mod SeenAside
 pub mod NoCreepHolds
+pub mod Tellings
+pub mod SenderRows
+pub mod ReceiverRows
+pub mod MetricsRows
+pub mod WireRows
+pub mod LentRows
