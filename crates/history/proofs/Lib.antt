@@ -14,3 +14,9 @@ pub mod SeenAside
 pub mod NoCreepHolds
 pub mod RekeySaid
 pub mod ExampleComputed
+pub mod Tellings
+pub mod SenderRows
+pub mod ReceiverRows
+pub mod MetricsRows
+pub mod WireRows
+pub mod LentRows
