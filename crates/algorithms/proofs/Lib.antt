@@ -6,6 +6,7 @@ pub mod EwmaKeepsRule
 pub mod EwmaStaysBetween
 pub mod SpinKeepsRule
 pub mod EtxOfRatios
+pub mod QualityInRange
 pub mod OwdRuleKept
 pub mod OwdStretches
 pub mod OwdGates

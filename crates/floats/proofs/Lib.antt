@@ -16,6 +16,7 @@ pub mod Clamping
 pub mod Complements
 pub mod Ratios
 pub mod Quotients
+pub mod PowersAbove
 pub mod IntegersInRange
 pub mod Casts
 pub mod PowersOfTwo

@@ -38,7 +38,7 @@ pub word-small : (n : ℕ) → n < 2 ^ 64 → n ≤ 2 ^ emax binary64
 word-small n h = le-trans (le-of-lt h) (lit≤ tt)
 
 -- ---- a quotient of values that are not negative
-same-fraction : (X p Y q a c b d : ℕ) → X * c ≡ a * p → Y * d ≡ b * q → X * q * (b * c) ≡ a * d * (Y * p)
+pub same-fraction : (X p Y q a c b d : ℕ) → X * c ≡ a * p → Y * d ≡ b * q → X * q * (b * c) ≡ a * d * (Y * p)
 same-fraction X p Y q a c b d v w =
     let l : X * q * (b * c) ≡ X * c * (b * q) = simp (mul-assoc, mul-comm, mul-left-comm) in
     let r : a * p * (Y * d) ≡ a * d * (Y * p) = simp (mul-assoc, mul-comm, mul-left-comm) in

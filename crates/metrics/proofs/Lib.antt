@@ -6,4 +6,5 @@ pub mod ReportsInRange
 pub mod RuleKept
 pub mod RoundTripsTaken
 pub mod SeenApart
+pub mod AnswersInRange
 mod WellWithin
