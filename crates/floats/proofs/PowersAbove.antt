@@ -118,10 +118,11 @@ quotient-rounds f x y a c b d B C D v w = go x y v w (positive-of-value y b d w 
         let X = m * up e in
         let Y = suc n * up g in
         rescale f (div f (fin t m e) (fin false (suc n) g)) false (X * down g) (Y * down e) (a * d) (b * c) (mul-pos (mul-pos (zero-lt-suc n) (up-pos g)) (down-pos e)) (mul-pos B C)
-        (same-fraction X (down e) Y (down g) a c b d (v .1) (w .1))
-        (t,
-        ap (λ (z : Bool). cond z (cond (eqb m 0) nan (inf (unlike t false))) (round f (unlike t false) (X * down g) (Y * down e))) (eqb·suc-zero n) ∙ ap (λ (s : Bool). round f s (X * down g) (Y * down e)) (plain t),
-        sign-of (λ (z : a ≡ 0). at-none (down g) (empty X (down e) a c C (v .1) z)) (v .0))
+        (same-fraction X (down e) Y (down g) a c b d (v .1) (w .1)) (
+          t,
+          ap (λ (z : Bool). cond z (cond (eqb m 0) nan (inf (unlike t false))) (round f (unlike t false) (X * down g) (Y * down e))) (eqb·suc-zero n) ∙ ap (λ (s : Bool). round f s (X * down g) (Y * down e)) (plain t),
+          sign-of (λ (z : a ≡ 0). at-none (down g) (empty X (down e) a c C (v .1) z)) (v .0),
+        )
 
 pub quotient-below : (f : Format) (j k b : ℕ) {x : Float} (y : Float) → k ≤ emax f → 2 ^ j ≤ b → HasValue y false b 1 → Below (j + k) x → Below k (div f x y)
 quotient-below f j k b {x} y e least value w =
