@@ -26,7 +26,7 @@ struct mmp_sender_state {
     uint64_t last_counter;
     uint32_t last_timestamp;
     bool interval_has_data;
-    bool has_last_report; /* last_report_ms is 0 where there was none */
+    bool has_last_report; /* last_report_ms is any number where there was none */
     uint64_t last_report_ms;
     uint64_t report_interval_ms;
     uint32_t consecutive_send_failures;

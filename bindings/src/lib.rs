@@ -200,7 +200,7 @@ pub struct SenderState {
     pub last_counter: u64,
     pub last_timestamp: u32,
     pub interval_has_data: bool,
-    /// Whether a report has been built; `last_report_ms` is 0 where none has.
+    /// Whether a report has been built; `last_report_ms` is any number where none has.
     pub has_last_report: bool,
     pub last_report_ms: u64,
     pub report_interval_ms: u64,
@@ -256,7 +256,7 @@ impl SenderState {
     /// ```
     /// use siwolkert::{Refusal, SenderState};
     /// let mut state = SenderState::new();
-    /// state.last_report_ms = 1; // no report has been built
+    /// state.report_interval_ms = 1 << 48; // no interval is so long
     /// assert_eq!(state.check(), Err(Refusal::State));
     /// ```
     #[inline]

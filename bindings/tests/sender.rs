@@ -28,7 +28,7 @@ fn lent(f: &Fields) -> SenderState {
 }
 
 fn keeps(s: &SenderState) -> bool {
-    s.last_report_ms <= MAX_MS && s.report_interval_ms <= MAX_MS && (s.has_last_report || s.last_report_ms == 0)
+    (!s.has_last_report || s.last_report_ms <= MAX_MS) && s.report_interval_ms <= MAX_MS
 }
 
 /// A number near an end of its range, or anywhere.
@@ -142,10 +142,13 @@ fn a_history() {
 }
 
 #[test]
-fn a_time_without_a_report_breaks_the_rule() {
+fn a_number_beside_no_report_is_free() {
     let mut s = SenderState::new();
-    s.last_report_ms = 1;
-    assert_eq!((s.check(), s.record_sent(1, 1, 1)), (Err(Refusal::State), Err(Refusal::State)));
+    s.last_report_ms = u64::MAX;
+    assert_eq!((s.check(), s.record_sent(1, 1, 1)), (Ok(()), Ok(())));
+    assert_eq!((s.has_last_report, s.last_report_ms), (false, u64::MAX));
+    assert!(s.build_report(1000).is_ok_and(|report| report.is_some()));
+    assert_eq!((s.has_last_report, s.last_report_ms), (true, 1000));
 }
 
 #[test]

@@ -191,7 +191,10 @@ fn about_dues(cases: &mut Vec<Case>) {
             }
             cases.extend([Call::Failure, Call::Success, Call::Multiplier].map(|call| s.call(call).0));
             s.fields.last_report_ms = None;
-            cases.push(s.call(Call::ShouldSend(0)).0);
+            for no_report_ms in [0, u64::MAX] {
+                s.no_report_ms = no_report_ms;
+                cases.push(s.call(Call::ShouldSend(0)).0);
+            }
         }
     }
 }
@@ -232,18 +235,15 @@ fn any_sender(rng: &mut Rng) -> Sender {
         _ => few(rng),
     };
     fields.srtt_sample_count = few(rng);
-    Sender { fields, no_report_ms: 0 }
+    let no_report_ms = if rng.below(2) == 0 { 0 } else { rng.number(8) };
+    Sender { fields, no_report_ms }
 }
 
 /// Breaks one clause of the rule, or not quite.
 fn spoil(rng: &mut Rng, s: &mut Sender) {
-    match rng.below(3) {
+    match rng.below(2) {
         0 => s.fields.last_report_ms = Some(about_last_clock(rng)),
-        1 => s.fields.report_interval_ms = about_last_clock(rng),
-        _ => {
-            s.fields.last_report_ms = None;
-            s.no_report_ms = rng.below(2) as u64;
-        }
+        _ => s.fields.report_interval_ms = about_last_clock(rng),
     }
 }
 

@@ -9,7 +9,7 @@ use crate::wire_cases::sender_fields;
 #[derive(Clone, Copy, Default)]
 pub struct Sender {
     pub fields: Fields,
-    /// What stands for the clock of the last report where there was none: the rule says 0.
+    /// What stands for the clock of the last report where there was none: any number, and no call looks at it.
     pub no_report_ms: u64,
 }
 
@@ -127,7 +127,8 @@ impl Sender {
     }
 
     pub fn keeps(&self) -> bool {
-        self.fields.last_report_ms.map_or(self.no_report_ms == 0, |ms| ms <= MAX_MS) && self.fields.report_interval_ms <= MAX_MS
+        let late = |ms: u64| ms > MAX_MS;
+        !self.fields.last_report_ms.is_some_and(late) && !late(self.fields.report_interval_ms)
     }
 
     pub fn numbers(&self) -> [u64; 13] {
@@ -188,7 +189,9 @@ impl Sender {
         let (values, after) = if refusal > 0 {
             (vec![0; call.values()], *self)
         } else {
-            (call.run(&mut s), Sender::of(&s))
+            let values = call.run(&mut s);
+            let no_report_ms = self.no_report_ms;
+            (values, Sender { no_report_ms, ..Sender::of(&s) })
         };
         let mut answer = Numbers::of(&[refusal]).and(&values);
         if call.moves() {

@@ -29,6 +29,11 @@ module _ (s : List ℕ) (pos n : ℕ) where
   unfolding lengthAnswer
   short k g e = picked-short (within s pos n) (neededFor pos n) (length s) k g e
 
+  -- a short answer holds the needed length and the payload's own
+  pub short-lengths : (k g : ℕ) → lengthAnswer s pos n ≡ TooShort k g → lengthAnswer s pos n ≡ TooShort (neededFor pos n) (length s)
+  unfolding lengthAnswer
+  short-lengths k g e = rw (short k g e)
+
   pub answer-enough : pos + n ≤ length s → Enough ≡ lengthAnswer s pos n
   unfolding lengthAnswer
   answer-enough h = simp (le-leb _ _ h)

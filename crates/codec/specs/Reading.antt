@@ -30,10 +30,21 @@ neededFor pos n = min (pos + n) 18446744073709551615
 unfoldable pub lengthAnswer : List ℕ → ℕ → ℕ → Length
 lengthAnswer s pos n = cond (within s pos n) Enough (TooShort (neededFor pos n) (length s))
 
--- document 01's number for a length answer
-unfoldable pub refusalOf : Length → ℕ
-refusalOf Enough = 0
-refusalOf (TooShort needed given) = 7
+-- document 01's number, and the two lengths that 7 returns beside it
+pub record LengthValues : Type 0 where
+  pub refusal : ℕ
+  pub needed : ℕ
+  pub given : ℕ
+
+-- the number and the values of each length answer
+unfoldable pub valuesOf : Length → LengthValues
+valuesOf Enough = record { refusal = 0; needed = 0; given = 0 }
+valuesOf (TooShort needed given) = record { refusal = 7; needed = needed; given = given }
+
+-- one thing where the payload is long enough, another where it is too short
+unfoldable pub byLength : {A : Type 0} → Length → A → A → A
+byLength Enough there lacking = there
+byLength (TooShort needed given) there lacking = lacking
 
 -- the place after n bytes, or the same place where they are not all there
 unfoldable pub placeAfter : List ℕ → Place → ℕ → Place

@@ -96,7 +96,7 @@ pub fn rest(s: &[u8], at: Place) -> &[u8]
 }
 
 // The count of bytes from the start that n more make, the greatest usize where it would wrap.
-fn needed_for(pos: usize, n: usize) -> usize
+pub fn needed_for(pos: usize, n: usize) -> usize
     ensures { λ r. ⌜ r ≡ neededFor pos n ⌝ }
 {
     if n <= 18446744073709551615 - pos {

@@ -6,37 +6,46 @@ ghost use Rattle.reader.specs.Reports.{senderAt, receiverAt};
 use crate::Reader;
 use codec::Place;
 use codec::reader::Length;
+use codec::reader::needed_for;
 use codec::reader::require;
 use wire::receiver_report;
-use wire::receiver_report::ReceiverReport;
 use wire::sender_report;
-use wire::sender_report::SenderReport;
 
 pub fn sender_report_at(s: &[u8], pos: usize) -> sender_report::Decoded
     ensures { λ r. ⌜ r ≡ senderAt (now (s .entry)) pos ⌝ }
 {
-    let Length::TooShort { needed, given } = require(s, Place { pos }, 47) else {
-        return SenderReport::decode(&s[pos..]);
+    let Length::Enough = require(s, Place { pos }, 47) else {
+        return sender_report::Decoded {
+            refusal: 7,
+            needed: needed_for(pos, 47),
+            given: s.len(),
+            report: sender_report::no_report(),
+        };
     };
     sender_report::Decoded {
-        refusal: 7,
-        needed,
-        given,
-        report: sender_report::no_report(),
+        refusal: 0,
+        needed: 0,
+        given: 0,
+        report: sender_report::report_in(&s[pos..]),
     }
 }
 
 pub fn receiver_report_at(s: &[u8], pos: usize) -> receiver_report::Decoded
     ensures { λ r. ⌜ r ≡ receiverAt (now (s .entry)) pos ⌝ }
 {
-    let Length::TooShort { needed, given } = require(s, Place { pos }, 67) else {
-        return ReceiverReport::decode(&s[pos..]);
+    let Length::Enough = require(s, Place { pos }, 67) else {
+        return receiver_report::Decoded {
+            refusal: 7,
+            needed: needed_for(pos, 67),
+            given: s.len(),
+            report: receiver_report::no_report(),
+        };
     };
     receiver_report::Decoded {
-        refusal: 7,
-        needed,
-        given,
-        report: receiver_report::no_report(),
+        refusal: 0,
+        needed: 0,
+        given: 0,
+        report: receiver_report::report_in(&s[pos..]),
     }
 }
 

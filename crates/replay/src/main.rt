@@ -25,60 +25,60 @@ mod wire_calls;
 mod writer_calls;
 
 use libc::STDIN_FILENO;
-use libc::STDOUT_FILENO;
 use scan::Scan;
+use text::Text;
 
-// The line as far as it was read, how much of the text is waiting to be written, and whether the script has ended.
+// The line as far as it was read, the text of the answers, and whether the script has ended.
 struct Progress {
     scan: Scan,
-    waiting: usize,
+    text: Text,
     ended: bool,
 }
 
 // A byte of the script.
 fn take_byte(p: Progress, b: u8, given: &mut [u64], out: &mut [u8]) -> Progress {
     let scan = p.scan;
-    let waiting = p.waiting;
+    let text = p.text;
     if b == b'\n' {
-        let written = end_line(scan, waiting, given, out);
+        let answered = end_line(scan, text, given, out);
         let next = scan::next_line(scan);
         return Progress {
             scan: next,
-            waiting: written,
-            ended: false,
+            text: answered,
+            ended: answered.failed,
         };
     }
     let more = scan::byte(scan, given, b);
     Progress {
         scan: more,
-        waiting,
+        text,
         ended: false,
     }
 }
 
 // The answer to the line that ends here.
-fn end_line(line: Scan, waiting: usize, given: &mut [u64], out: &mut [u8]) -> usize {
+fn end_line(line: Scan, text: Text, given: &mut [u64], out: &mut [u8]) -> Text {
     let whole = scan::end_number(line, given);
     if whole.malformed {
-        return text::malformed(out, waiting, line.line);
+        return text::malformed(out, text, line.line);
     }
-    answered(tables::first(given, whole.count), line.line, waiting, out)
+    answered(tables::first(given, whole.count), line.line, text, out)
 }
 
 // The answer to a line of numbers.
-fn answered(given: &[u64], line: u64, waiting: usize, out: &mut [u8]) -> usize {
+fn answered(given: &[u64], line: u64, text: Text, out: &mut [u8]) -> Text {
     let mut answer = [0u64; 8500];
     let n = calls::answer(given, &mut answer);
     if n == 0 {
-        return text::malformed(out, waiting, line);
+        return text::malformed(out, text, line);
     }
-    text::line(out, waiting, tables::first(&answer, n))
+    text::line(out, text, tables::first(&answer, n))
 }
 
 fn take_bytes(p: Progress, bytes: &[u8], given: &mut [u64], out: &mut [u8]) -> Progress {
     let mut progress = p;
     let mut i = 0;
-    while i < bytes.len() {
+    while i < bytes.len() && !progress.ended {
         progress = take_byte(progress, bytes[i], given, out);
         i += 1;
     }
@@ -88,13 +88,13 @@ fn take_bytes(p: Progress, bytes: &[u8], given: &mut [u64], out: &mut [u8]) -> P
 // What is left when the script ends: a last line that no line feed ends, and the text.
 fn end_script(p: Progress, given: &mut [u64], out: &mut [u8]) {
     let scan = p.scan;
-    let waiting = p.waiting;
+    let text = p.text;
     if scan.begun {
-        let written = end_line(scan, waiting, given, out);
-        io::write_all(STDOUT_FILENO, tables::first_bytes(out, written));
+        let answered = end_line(scan, text, given, out);
+        text::end(out, answered);
         return;
     }
-    io::write_all(STDOUT_FILENO, tables::first_bytes(out, waiting));
+    text::end(out, text);
 }
 
 // Reads once, and answers what came.
@@ -113,7 +113,7 @@ fn take_some(p: Progress, chunk: &mut [u8], given: &mut [u64], out: &mut [u8]) -
 fn run(chunk: &mut [u8], given: &mut [u64], out: &mut [u8]) {
     let mut progress = Progress {
         scan: scan::new(),
-        waiting: 0,
+        text: text::new(),
         ended: false,
     };
     let mut turns = u64::MAX;

@@ -1,59 +1,107 @@
-// The answers as text. It waits in a buffer, which is written when it is full and when the script ends.
+// The answers as text. It waits in a buffer, which is written when it is full and when the script ends. After a write that failed nothing more is taken up
+// or written.
+use crate::tables::first_bytes;
+use libc::STDERR_FILENO;
 use libc::STDOUT_FILENO;
 
-// A byte behind the `waiting` that are there; answers how many wait now.
-fn put(out: &mut [u8], waiting: usize, b: u8) -> usize {
+// How many bytes of the buffer wait, and whether a write has failed.
+pub struct Text {
+    pub waiting: usize,
+    pub failed: bool,
+}
+
+pub fn new() -> Text {
+    Text {
+        waiting: 0,
+        failed: false,
+    }
+}
+
+// A byte behind those that wait.
+fn put(out: &mut [u8], t: Text, b: u8) -> Text {
+    if t.failed {
+        return t;
+    }
+    let waiting = t.waiting;
     if waiting < out.len() {
         out[waiting] = b;
-        return waiting + 1;
+        return Text {
+            waiting: waiting + 1,
+            failed: false,
+        };
     }
-    io::write_all(STDOUT_FILENO, out);
+    let written = io::write_all(STDOUT_FILENO, out);
+    put_first(out, written, b)
+}
+
+// A byte at the buffer's start, where what waited could be written.
+fn put_first(out: &mut [u8], written: bool, b: u8) -> Text {
+    let failed = !written;
     if 0 < out.len() {
         out[0] = b;
-        return 1;
+        return Text { waiting: 1, failed };
     }
-    0
+    Text { waiting: 0, failed }
 }
 
-fn put_all(out: &mut [u8], waiting: usize, s: &[u8]) -> usize {
-    let mut w = waiting;
+fn put_all(out: &mut [u8], text: Text, s: &[u8]) -> Text {
+    let mut t = text;
     let mut i = 0;
     while i < s.len() {
-        w = put(out, w, s[i]);
+        t = put(out, t, s[i]);
         i += 1;
     }
-    w
+    t
 }
 
-fn put_number(out: &mut [u8], waiting: usize, x: u64) -> usize {
+fn put_number(out: &mut [u8], text: Text, x: u64) -> Text {
     let mut digits = [0u8; 20];
     let n = io::decimal(x, &mut digits);
-    put_all(out, waiting, &digits[..n])
+    put_all(out, text, &digits[..n])
 }
 
 // The answer to a malformed line.
-pub fn malformed(out: &mut [u8], waiting: usize, line: u64) -> usize {
-    let w = put_all(out, waiting, b"malformed ");
-    let v = put_number(out, w, line);
-    put(out, v, b'\n')
+pub fn malformed(out: &mut [u8], text: Text, line: u64) -> Text {
+    let t = put_all(out, text, b"malformed ");
+    let u = put_number(out, t, line);
+    put(out, u, b'\n')
 }
 
 // The space before each number but the first.
-fn put_space(out: &mut [u8], waiting: usize, i: usize) -> usize {
+fn put_space(out: &mut [u8], text: Text, i: usize) -> Text {
     if 0 < i {
-        return put(out, waiting, b' ');
+        return put(out, text, b' ');
     }
-    waiting
+    text
 }
 
 // A line of numbers, one space between.
-pub fn line(out: &mut [u8], waiting: usize, answer: &[u64]) -> usize {
-    let mut w = waiting;
+pub fn line(out: &mut [u8], text: Text, answer: &[u64]) -> Text {
+    let mut t = text;
     let mut i = 0;
     while i < answer.len() {
-        w = put_space(out, w, i);
-        w = put_number(out, w, answer[i]);
+        t = put_space(out, t, i);
+        t = put_number(out, t, answer[i]);
         i += 1;
     }
-    put(out, w, b'\n')
+    put(out, t, b'\n')
+}
+
+// Writes what waits; says so on standard error where that or an earlier write failed.
+pub fn end(out: &[u8], t: Text) {
+    if t.failed {
+        complain();
+        return;
+    }
+    if io::write_all(STDOUT_FILENO, first_bytes(out, t.waiting)) {
+        return;
+    }
+    complain();
+}
+
+fn complain() {
+    io::write_all(
+        STDERR_FILENO,
+        b"replay: a write to standard output failed, and the answers end there\n",
+    );
 }

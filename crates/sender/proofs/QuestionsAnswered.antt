@@ -1,7 +1,7 @@
 -- What the rule says by its clauses, and what a call that nothing refuses knows of its record and its arguments.
 -- Assumes nothing.
 use mathlib.Core.Path.{_≡_, refl}
-use mathlib.Core.Bool.{true, _&&_, _||_, and-eq-true-iff}
+use mathlib.Core.Bool.{true, _&&_, and-eq-true-iff}
 use mathlib.Core.List.{[], _∷_}
 use Prim.Native.Nat.{ℕ, _+_, _^_, _≤_, _<_}
 use lib.Dec.{eqb}
@@ -10,7 +10,7 @@ use borrow.Author.Tests.{leb-true, ltb-true}
 use Rattle.refusals.specs.Questions.{question}
 use Rattle.refusals.specs.Ranges.{maxClock, maxFrame, clockOk, frameSizeOk, counterOk, smoothedOk, boundsOk}
 use Rattle.refusals.proofs.FirstNoFound.{each-yes}
-use Rattle.sender.specs.State.{keepsRule, Kept, newRefusal, refusalOf}
+use Rattle.sender.specs.State.{lastReportOk, keepsRule, Kept, newRefusal, refusalOf}
 use Rattle.sender.specs.Sent.{countersOk, sentRefusal}
 use Rattle.sender.specs.Backoff.{failureRefusal}
 use Rattle.sender.specs.Reports.{reportRefusal}
@@ -21,9 +21,8 @@ use Rattle.sender.specs.declared.SenderState.{SenderState}
 pub kept : (s : SenderState) → keepsRule s ≡ true → Kept s
 unfolding keepsRule
 kept s h =
-    let p = and-eq-true-iff (clockOk (s .«last_report_ms») && clockOk (s .«report_interval_ms»)) (s .«has_last_report» || eqb (s .«last_report_ms») 0) .0 h in
-    let q = and-eq-true-iff (clockOk (s .«last_report_ms»)) (clockOk (s .«report_interval_ms»)) .0 (p .0) in
-    record { last-report = q .0; interval = q .1; none-no-time = p .1 }
+    let p = and-eq-true-iff (lastReportOk s) (clockOk (s .«report_interval_ms»)) .0 h in
+    record { last-report = p .0; interval = p .1 }
 
 pub interval-at-most : (s : SenderState) → keepsRule s ≡ true → s .«report_interval_ms» ≤ maxClock
 interval-at-most s h = leb-true (s .«report_interval_ms») maxClock (kept s h .interval)

@@ -1,7 +1,7 @@
 -- Each call ends within the rule: a new record keeps it, and so does the record after any call that is accepted.
 -- Assumes nothing.
 use mathlib.Core.Path.{_≡_, refl}
-use mathlib.Core.Bool.{Bool, true, false, cond, _&&_, _||_, and-eq-true-iff}
+use mathlib.Core.Bool.{Bool, true, false, cond, and-eq-true-iff}
 use Prim.Native.Nat.{ℕ, _*_, _≤_}
 use native.Mathlib.Omega.{arith}
 use lib.Dec.{eqb}
@@ -11,7 +11,7 @@ use Rattle.numbers.specs.Intervals.{top, updateCounted, nextInterval}
 use Rattle.numbers.specs.Signs.{asUnsigned}
 use Rattle.numbers.proofs.IntervalAtMost.{next-at-most, floor-at-most}
 use Rattle.refusals.specs.Ranges.{maxClock, clockOk}
-use Rattle.sender.specs.State.{keepsRule, Kept, startedAt, fresh, newRefusal, newOf}
+use Rattle.sender.specs.State.{lastReportOk, keepsRule, Kept, startedAt, fresh, newRefusal, newOf}
 use Rattle.sender.specs.Sent.{begun, opened, counted, sent, sentOf}
 use Rattle.sender.specs.Backoff.{withFailures, failureOf, successOf}
 use Rattle.sender.specs.Reports.{reportOf, someBuilt, noneBuilt, built, reportRefusal, builtOf}
@@ -23,10 +23,7 @@ use Rattle.sender.proofs.QuestionsAnswered.{kept, interval-at-most, new
 -- the clauses make the rule
 keeps : (s : SenderState) → Kept s → keepsRule s ≡ true
 unfolding keepsRule
-keeps s k =
-    let l = clockOk (s .«last_report_ms») in
-    let i = clockOk (s .«report_interval_ms») in
-    and-eq-true-iff (l && i) (s .«has_last_report» || eqb (s .«last_report_ms») 0) .1 (and-eq-true-iff l i .1 (k .last-report, k .interval), k .none-no-time)
+keeps s k = and-eq-true-iff (lastReportOk s) (clockOk (s .«report_interval_ms»)) .1 (k .last-report, k .interval)
 
 -- ---- a new record
 pub fresh-keeps-rule : keepsRule fresh ≡ true
@@ -39,7 +36,7 @@ unfolding newOf
 new-keeps-rule ms = go (eqb (newRefusal ms) 0) refl
   where
     go : (b : Bool) → eqb (newRefusal ms) 0 ≡ b → keepsRule (cond b (startedAt ms) fresh) ≡ true
-    go true e = keeps (startedAt ms) (record { last-report = refl; interval = new-asked ms (eqb-true (newRefusal ms) 0 e); none-no-time = refl })
+    go true e = keeps (startedAt ms) (record { last-report = refl; interval = new-asked ms (eqb-true (newRefusal ms) 0 e) })
     go false e = fresh-keeps-rule
 
 -- ---- a frame
@@ -69,7 +66,7 @@ module _ (P : SenderReportBuilt → Type 0) (s : SenderState) (now : ℕ) where
 report-ends-within : (s : SenderState) (now : ℕ) → keepsRule s ≡ true → clockOk now ≡ true → keepsRule (built s now .state) ≡ true
 report-ends-within s now h k =
     by-data (λ r. keepsRule (r .state) ≡ true) s now
-    (keeps (someBuilt s now (reportOf s) .state) (record { last-report = k; interval = kept s h .interval; none-no-time = refl }))
+    (keeps (someBuilt s now (reportOf s) .state) (record { last-report = k; interval = kept s h .interval }))
     h
 
 -- the refusal is that of the questions
@@ -111,7 +108,6 @@ pace-keeps-rule s srtt lo hi updates h hl hh =
     (record {
       last-report = k .last-report;
       interval = le-leb next maxClock (next-at-most (s .«report_interval_ms») (2 * asUnsigned srtt) lo hi maxClock (interval-at-most s h) hl hh);
-      none-no-time = k .none-no-time;
     })
 
 pub from-srtt-keeps-rule : (s : SenderState) (srtt : ℤ) → fromSrttOf s srtt .refusal ≡ 0 → keepsRule (fromSrttOf s srtt .state) ≡ true

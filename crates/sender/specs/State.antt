@@ -1,6 +1,6 @@
 -- A sender's record, its rule and its fields: document 01, the state rule and "Reports due". Definitions only.
 use mathlib.Core.Path.{_≡_}
-use mathlib.Core.Bool.{Bool, true, false, cond, _&&_, _||_}
+use mathlib.Core.Bool.{Bool, true, false, cond, not, _&&_, _||_}
 use mathlib.Core.List.{[], _∷_}
 use Prim.Native.Nat.{ℕ}
 use lib.Dec.{eqb}
@@ -13,15 +13,18 @@ use Rattle.sender.specs.declared.SenderState.{SenderState}
 use Rattle.sender.specs.declared.SenderNew.{SenderNew}
 use Rattle.sender.specs.declared.SenderUpdate.{SenderUpdate}
 
--- document 01, State rule: the clock field and the report interval obey question 2; and there is no last report's time where there was no report
+-- the time of the last report obeys question 2; where there was none there is no time, and the number is free
+abbrev pub lastReportOk : SenderState → Bool
+lastReportOk s = not (s .«has_last_report») || clockOk (s .«last_report_ms»)
+
+-- document 01, State rule: the clock field and the report interval obey question 2
 unfoldable pub keepsRule : SenderState → Bool
-keepsRule s = clockOk (s .«last_report_ms») && clockOk (s .«report_interval_ms») && (s .«has_last_report» || eqb (s .«last_report_ms») 0)
+keepsRule s = lastReportOk s && clockOk (s .«report_interval_ms»)
 
 -- the rule's clauses by name
 pub record Kept (s : SenderState) : Type 0 where
-  pub last-report : clockOk (s .«last_report_ms») ≡ true
+  pub last-report : lastReportOk s ≡ true
   pub interval : clockOk (s .«report_interval_ms») ≡ true
-  pub none-no-time : (s .«has_last_report» || eqb (s .«last_report_ms») 0) ≡ true
 
 -- nothing sent, and a first report interval
 abbrev pub startedAt : ℕ → SenderState

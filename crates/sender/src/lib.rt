@@ -6,13 +6,10 @@ pub mod backoff; // backoff.rt: failures to send a report
 pub mod pacing; // pacing.rt: the report interval from the smoothed round trip
 
 ghost use mathlib.Core.Path.{_≡_};
-ghost use mathlib.Core.Bool.{cond};
-ghost use Rattle.refusals.specs.Ranges.{maxClock};
 ghost use Rattle.sender.specs.State.{keepsRule, refusalOf, startedAt, fresh, newOf, packetsOf, bytesOf, intervalOf, failuresOf};
 use refusals::answer::AnswerU32;
 use refusals::answer::AnswerU64;
 use refusals::questions::Questions;
-use refusals::ranges::MAX_CLOCK_MS;
 use refusals::ranges::clock_ok;
 
 // What an end keeps of the frames that it sends to one peer.
@@ -32,7 +29,7 @@ pub struct SenderState {
     // Whether any frames have been sent in the current interval.
     pub interval_has_data: bool,
     // --- Report timing ---
-    // Whether a report has been built, and when: 0 where none has.
+    // Whether a report has been built, and when: any number where none has.
     pub has_last_report: bool,
     pub last_report_ms: u64,
     pub report_interval_ms: u64,
@@ -105,23 +102,12 @@ impl SenderState {
         }
     }
 
-    // The latest time that a last report may have: 0 where there was none.
-    fn latest_report_ms(self) -> u64
-        ensures { λ r. ⌜ r ≡ cond (self .«has_last_report») maxClock 0 ⌝ }
-    {
-        if self.has_last_report {
-            MAX_CLOCK_MS
-        } else {
-            0
-        }
-    }
-
     pub fn keeps_rule(self) -> bool
         ensures { λ r. ⌜ r ≡ keepsRule self ⌝ }
     {
-        let latest = self.latest_report_ms();
+        let last_report = !self.has_last_report | clock_ok(self.last_report_ms);
         let interval = clock_ok(self.report_interval_ms);
-        (self.last_report_ms <= latest) & interval
+        last_report & interval
     }
 
     fn refusal(self) -> u8

@@ -5,4 +5,3 @@ mod Fields
 pub mod SenderRoundTrip
 pub mod ReceiverRoundTrip
 pub mod PathMtuRoundTrip
-pub mod LengthAnswers

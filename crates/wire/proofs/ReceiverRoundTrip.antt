@@ -5,15 +5,18 @@ use mathlib.Core.Bool.{Bool, true, false, cond}
 use mathlib.Core.List.{List, [], _∷_, _++_}
 use lib.ListN.{length, take, drop}
 use native.Mathlib.Omega.{arith}
-use borrow.Author.Tests.{le-leb, leb-true}
+use borrow.Author.Tests.{leb-true}
 use mir.Syntax.{w32}
 use mir.Val.{toZ, ofZ}
 use mir.Facts.{toZ-ofZ, ofZ-toZ, fits-ofZ}
 use Rattle.codec.specs.LittleEndian.{leAt, leBytes, fieldAt}
+use Rattle.codec.specs.Reading.{valuesOf, byLength}
+use Rattle.codec.specs.declared.reader.Length.{Length}
+use Rattle.codec.proofs.Lengths.{answer-enough}
 use Rattle.codec.proofs.Widths.{read-bytes, field-small}
 use lib.Dec.{leb}
 use Rattle.wire.specs.Payload.{AlikeOn, Bytes, roomAnswer}
-use Rattle.wire.specs.ReceiverReport.{encoded, encodeAnswer, encodedInto, reportIn, accepted, decoded, Fits}
+use Rattle.wire.specs.ReceiverReport.{encoded, encodeAnswer, encodedInto, reportIn, decodedBy, accepted, decoded, Fits}
 use Rattle.wire.specs.declared.receiver_report.ReceiverReport.{ReceiverReport}
 use Rattle.wire.specs.declared.receiver_report.Decoded.{Decoded}
 use Rattle.wire.proofs.Messages.{payload-alike, payload-length}
@@ -22,7 +25,7 @@ use Rattle.wire.proofs.Fields.{field-alike, first-field, next-field}
 -- a payload of 67 bytes or more is accepted
 pub decodes : (s : List ℕ) → 67 ≤ length s → decoded s ≡ accepted (reportIn s)
 unfolding decoded
-decodes s h = rw (le-leb 67 (length s) h)
+decodes s h = ap (λ (answer : Length). decodedBy answer (reportIn s)) (sym (answer-enough s 0 67 h))
 
 -- PAYLOADS THAT AGREE outside the reserved and trailing bytes decode alike
 pub decode-alike : (s t : List ℕ) → 67 ≤ length s → 67 ≤ length t → AlikeOn s t 3 37 → AlikeOn s t 39 67 → decoded s ≡ decoded t
@@ -89,7 +92,7 @@ round-trip-in r out h k =
 -- the jitter comes back whatever the other fields hold, from every buffer that has room
 pub jitter-back : (r : ReceiverReport) (out : List ℕ) → r .jitter < 2 ^ 32 → encodeAnswer out ≡ 0 →
     (decoded (drop 1 (encodedInto out r)) .refusal ≡ 0) × (decoded (drop 1 (encodedInto out r)) .report .jitter ≡ r .jitter)
-unfolding encoded leBytes reportIn fieldAt leAt roomAnswer
+unfolding decodedBy valuesOf byLength encoded leBytes reportIn fieldAt leAt roomAnswer
 jitter-back r out h room =
     let k : 68 ≤ length out = roomy (leb 68 (length out)) (leb-true 68 (length out)) room in
     let payload = drop 1 (encodedInto out r) in

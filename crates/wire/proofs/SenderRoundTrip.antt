@@ -4,11 +4,12 @@ use mathlib.Core.Path.{_≡_, refl, sym, ap, _∙_}
 use mathlib.Core.List.{List, []}
 use lib.ListN.{length, take, drop}
 use native.Mathlib.Omega.{arith}
-use borrow.Author.Tests.{le-leb}
 use Rattle.codec.specs.LittleEndian.{leAt, leBytes, fieldAt}
+use Rattle.codec.specs.declared.reader.Length.{Length}
+use Rattle.codec.proofs.Lengths.{answer-enough}
 use Rattle.codec.proofs.Widths.{read-bytes}
 use Rattle.wire.specs.Payload.{AlikeOn, Bytes}
-use Rattle.wire.specs.SenderReport.{encoded, encodedInto, reportIn, accepted, decoded, Fits}
+use Rattle.wire.specs.SenderReport.{encoded, encodedInto, reportIn, decodedBy, accepted, decoded, Fits}
 use Rattle.wire.specs.declared.sender_report.SenderReport.{SenderReport}
 use Rattle.wire.proofs.Messages.{payload-alike, payload-length}
 use Rattle.wire.proofs.Fields.{field-alike, first-field, next-field}
@@ -16,7 +17,7 @@ use Rattle.wire.proofs.Fields.{field-alike, first-field, next-field}
 -- a payload of 47 bytes or more is accepted
 pub decodes : (s : List ℕ) → 47 ≤ length s → decoded s ≡ accepted (reportIn s)
 unfolding decoded
-decodes s h = rw (le-leb 47 (length s) h)
+decodes s h = ap (λ (answer : Length). decodedBy answer (reportIn s)) (sym (answer-enough s 0 47 h))
 
 -- PAYLOADS THAT AGREE outside the reserved and trailing bytes decode alike
 pub decode-alike : (s t : List ℕ) → 47 ≤ length s → 47 ≤ length t → AlikeOn s t 3 47 → decoded s ≡ decoded t

@@ -1,10 +1,10 @@
 -- PathMtuNotification, 2 bytes (mmp/wire.rs; document 01's checks 6 and 7 at its length). Definitions only.
 use Prim.Native.Nat.{ℕ}
-use mathlib.Core.Bool.{cond}
 use mathlib.Core.List.{List}
-use lib.ListN.{length}
-use lib.Dec.{leb}
 use Rattle.codec.specs.LittleEndian.{leBytes, fieldAt}
+use Rattle.codec.specs.Reading.{lengthAnswer, valuesOf, byLength}
+use Rattle.codec.specs.declared.reader.Length.{Length}
+use Rattle.codec.specs.declared.reader.Length.the-variants.{Enough}
 use Rattle.wire.specs.Payload.{roomAnswer, writtenInto}
 use Rattle.wire.specs.declared.path_mtu.PathMtuNotification.{PathMtuNotification}
 use Rattle.wire.specs.declared.path_mtu.Decoded.{Decoded}
@@ -25,14 +25,19 @@ encodeAnswer out = roomAnswer 2 out
 abbrev pub encodedInto : List ℕ → PathMtuNotification → List ℕ
 encodedInto out n = writtenInto out (encoded n)
 
+-- document 01, check 7: the number and the lengths of a length answer, with the notification where the body is long enough, else one of 0
+unfoldable pub decodedBy : Length → PathMtuNotification → Decoded
+decodedBy answer n = record {
+  refusal = valuesOf answer .refusal;
+  needed = valuesOf answer .needed;
+  given = valuesOf answer .given;
+  notification = byLength answer n (notification 0);
+}
+
 -- the notification, and nothing refused
 abbrev pub accepted : PathMtuNotification → Decoded
-accepted r = record { refusal = 0; needed = 0; given = 0; notification = r }
-
--- document 01, check 7: both lengths, and no notification
-abbrev pub tooShort : ℕ → Decoded
-tooShort given = record { refusal = 7; needed = 2; given = given; notification = notification 0 }
+accepted n = decodedBy Enough n
 
 -- a body of at least 2 bytes is read; anything past them is ignored
 unfoldable pub decoded : List ℕ → Decoded
-decoded s = cond (leb 2 (length s)) (accepted (notification (fieldAt s 0 2))) (tooShort (length s))
+decoded s = decodedBy (lengthAnswer s 0 2) (notification (fieldAt s 0 2))

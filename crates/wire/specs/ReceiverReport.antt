@@ -1,14 +1,14 @@
 -- ReceiverReport, 68 bytes (document 01, "Report bytes"): highest 8, packets 8, bytes 8, echo 4, dwell 2, max burst 2, mean burst 2, reserved 2, jitter 4,
 -- ECN 4, trend 4 signed, bursts 4, reorders 4, interval packets 4, interval bytes 4. Definitions only.
 use Prim.Native.Nat.{ℕ, _^_, _<_}
-use mathlib.Core.Bool.{cond}
 use mathlib.Core.List.{List, [], _∷_, _++_}
-use lib.ListN.{length}
-use lib.Dec.{leb}
 use lib.IntN.{pos}
 use mir.Syntax.{w32}
 use mir.Val.{SFits, toZ, ofZ}
 use Rattle.codec.specs.LittleEndian.{leBytes, fieldAt}
+use Rattle.codec.specs.Reading.{lengthAnswer, valuesOf, byLength}
+use Rattle.codec.specs.declared.reader.Length.{Length}
+use Rattle.codec.specs.declared.reader.Length.the-variants.{Enough}
 use Rattle.wire.specs.Payload.{roomAnswer, writtenInto}
 use Rattle.wire.specs.declared.receiver_report.ReceiverReport.{ReceiverReport}
 use Rattle.wire.specs.declared.receiver_report.Decoded.{Decoded}
@@ -79,17 +79,22 @@ noReport = record {
   «interval_bytes_recv» = 0;
 }
 
+-- document 01, check 7: the number and the lengths of a length answer, with the report where the payload is long enough, else none
+unfoldable pub decodedBy : Length → ReceiverReport → Decoded
+decodedBy answer r = record {
+  refusal = valuesOf answer .refusal;
+  needed = valuesOf answer .needed;
+  given = valuesOf answer .given;
+  report = byLength answer r noReport;
+}
+
 -- the report, and nothing refused
 abbrev pub accepted : ReceiverReport → Decoded
-accepted r = record { refusal = 0; needed = 0; given = 0; report = r }
-
--- document 01, check 7: both lengths, and no report
-abbrev pub tooShort : ℕ → Decoded
-tooShort given = record { refusal = 7; needed = 67; given = given; report = noReport }
+accepted r = decodedBy Enough r
 
 -- a payload of at least 67 bytes is read; anything past them is ignored
 unfoldable pub decoded : List ℕ → Decoded
-decoded s = cond (leb 67 (length s)) (accepted (reportIn s)) (tooShort (length s))
+decoded s = decodedBy (lengthAnswer s 0 67) (reportIn s)
 
 -- what every ReceiverReport of the code keeps: each field fits its type
 pub record Fits (r : ReceiverReport) : Type 0 where

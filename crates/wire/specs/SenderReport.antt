@@ -1,10 +1,10 @@
 -- SenderReport, 48 bytes (document 01, "Report bytes"): start counter 8, end counter 8, start time 4, end time 4, interval bytes 4, packets 8, bytes 8. Definitions only.
 use Prim.Native.Nat.{ℕ, _^_, _<_}
-use mathlib.Core.Bool.{cond}
 use mathlib.Core.List.{List, [], _∷_, _++_}
-use lib.ListN.{length}
-use lib.Dec.{leb}
 use Rattle.codec.specs.LittleEndian.{leBytes, fieldAt}
+use Rattle.codec.specs.Reading.{lengthAnswer, valuesOf, byLength}
+use Rattle.codec.specs.declared.reader.Length.{Length}
+use Rattle.codec.specs.declared.reader.Length.the-variants.{Enough}
 use Rattle.wire.specs.Payload.{roomAnswer, writtenInto}
 use Rattle.wire.specs.declared.sender_report.SenderReport.{SenderReport}
 use Rattle.wire.specs.declared.sender_report.Decoded.{Decoded}
@@ -53,17 +53,22 @@ noReport = record {
   «cumulative_bytes_sent» = 0;
 }
 
+-- document 01, check 7: the number and the lengths of a length answer, with the report where the payload is long enough, else none
+unfoldable pub decodedBy : Length → SenderReport → Decoded
+decodedBy answer r = record {
+  refusal = valuesOf answer .refusal;
+  needed = valuesOf answer .needed;
+  given = valuesOf answer .given;
+  report = byLength answer r noReport;
+}
+
 -- the report, and nothing refused
 abbrev pub accepted : SenderReport → Decoded
-accepted r = record { refusal = 0; needed = 0; given = 0; report = r }
-
--- document 01, check 7: both lengths, and no report
-abbrev pub tooShort : ℕ → Decoded
-tooShort given = record { refusal = 7; needed = 47; given = given; report = noReport }
+accepted r = decodedBy Enough r
 
 -- a payload of at least 47 bytes is read; anything past them is ignored
 unfoldable pub decoded : List ℕ → Decoded
-decoded s = cond (leb 47 (length s)) (accepted (reportIn s)) (tooShort (length s))
+decoded s = decodedBy (lengthAnswer s 0 47) (reportIn s)
 
 -- what every SenderReport of the code keeps: each field fits its type
 pub record Fits (r : SenderReport) : Type 0 where

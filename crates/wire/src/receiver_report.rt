@@ -95,7 +95,8 @@ pub fn no_report() -> ReceiverReport
     }
 }
 
-fn report_in(s: &[u8]) -> ReceiverReport
+// The fields, 0 where one does not lie in the payload whole: for a caller that has asked for the length.
+pub fn report_in(s: &[u8]) -> ReceiverReport
     ensures { λ r. ⌜ r ≡ reportIn (now (s .entry)) ⌝ }
 {
     ReceiverReport {

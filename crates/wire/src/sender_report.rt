@@ -79,7 +79,8 @@ pub fn no_report() -> SenderReport
     }
 }
 
-fn report_in(s: &[u8]) -> SenderReport
+// The fields, 0 where one does not lie in the payload whole: for a caller that has asked for the length.
+pub fn report_in(s: &[u8]) -> SenderReport
     ensures { λ r. ⌜ r ≡ reportIn (now (s .entry)) ⌝ }
 {
     SenderReport {

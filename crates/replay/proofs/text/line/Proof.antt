@@ -8,10 +8,10 @@ use Rattle.replay.proofs.text.line.Statement.{statement}
 use Rattle.replay.proofs.text.line.Tie as tie
 
 abbrev Inv-loop : tie.InvT-loop
-Inv-loop out₀ waiting answer w₀ i₀ out w i = (i ≤ length answer) × (length out ≡ length out₀)
+Inv-loop out₀ answer t₀ i₀ out t i = (i ≤ length answer) × (length out ≡ length out₀)
 
 abbrev μ-loop : tie.MeasureT-loop
-μ-loop out₀ waiting answer w₀ i₀ out w i = length answer - i
+μ-loop out₀ answer t₀ i₀ out t i = length answer - i
 
 loop-holds : tie.Need-loop-holds Inv-loop μ-loop
 loop-holds c = search needs

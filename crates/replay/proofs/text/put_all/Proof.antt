@@ -8,10 +8,10 @@ use Rattle.replay.proofs.text.put_all.Statement.{statement}
 use Rattle.replay.proofs.text.put_all.Tie as tie
 
 abbrev Inv-loop : tie.InvT-loop
-Inv-loop out₀ waiting s w₀ i₀ out w i = (i ≤ length s) × (length out ≡ length out₀)
+Inv-loop out₀ s t₀ i₀ out t i = (i ≤ length s) × (length out ≡ length out₀)
 
 abbrev μ-loop : tie.MeasureT-loop
-μ-loop out₀ waiting s w₀ i₀ out w i = length s - i
+μ-loop out₀ s t₀ i₀ out t i = length s - i
 
 loop-holds : tie.Need-loop-holds Inv-loop μ-loop
 loop-holds c = search needs

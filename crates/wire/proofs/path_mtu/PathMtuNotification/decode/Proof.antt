@@ -2,21 +2,22 @@
 use borrow.Author.Needs.{needs}
 use mathlib.Core.Path.{sym, ap, _∙_}
 use Prim.Native.Nat.{ℕ}
-use Rattle.codec.proofs.Lengths.{enough, short}
-use Rattle.wire.specs.PathMtu.{notification, accepted, decoded}
+use Rattle.codec.specs.Reading.{neededFor, valuesOf, byLength}
+use Rattle.codec.proofs.Lengths.{short-lengths}
+use Rattle.wire.specs.PathMtu.{notification, decodedBy, accepted, decoded}
 use Rattle.wire.proofs.path_mtu.PathMtuNotification.decode.Statement.{statement}
 use Rattle.wire.proofs.path_mtu.PathMtuNotification.decode.Tie as tie
 
 returns : tie.Need-returns
-unfolding decoded
+unfolding decoded decodedBy neededFor valuesOf byLength
 returns c =
     let g = c .enum-told2 .given in
-    rw (short _ 0 2 (g .0 .0) (g .0 .1 .0) (sym (c .before .before .require .ensures) ∙ g .1))
+    rw (short-lengths _ 0 2 (g .0 .0) (g .0 .1 .0) (sym (c .before .before .require .ensures) ∙ g .1))
 
 returns-2 : tie.Need-returns-2
-unfolding decoded
+unfolding decoded decodedBy valuesOf byLength
 returns-2 c =
-    rw (enough _ 0 2 (sym (c .before .before .before .require .ensures) ∙ c .before .enum-told .given .1))
+    rw (sym (c .before .before .before .require .ensures) ∙ c .before .enum-told .given .1)
     (ap (λ (x : ℕ). accepted (notification x)) (c .u16-at .ensures))
 
 pub decode-spec : {M : Type 1} → statement M
