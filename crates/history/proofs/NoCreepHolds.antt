@@ -48,9 +48,9 @@ use Rattle.history.specs.NoCreep.{
   jitterAverage,
   JitterHolds,
   ReportHolds,
-  staleCall,
+  staleOnEnd,
   unlessRefused,
-  isStale,
+  staleEntry,
   oneMore,
   noneStruck,
   struckOut,
@@ -247,7 +247,7 @@ end-state (on-sender c) d e f h y z = record { sender = ap (λ (s : SenderState)
 end-state (on-receiver c) d e f h y z = record { sender = h .sender; receiver = ap (λ (r : ReceiverState). receiverStep c r .state) (h .receiver); metrics = h .metrics }
 end-state (on-metrics c) d e f h y z = record { sender = h .sender; receiver = h .receiver; metrics = seen.state-alike c (e .metrics) (f .metrics) (h .metrics) y z }
 
-end-idle : (c : EndCall) (d : ℕ) (k : EndNew) (x : Log) (e f : End) → ReachedEnd k x e → LikeEnd d e f → endStep c e .refusal ≡ 0 → staleCall c x ≡ true → LikeEnd (d + 1) (endStep c e .state) f
+end-idle : (c : EndCall) (d : ℕ) (k : EndNew) (x : Log) (e f : End) → ReachedEnd k x e → LikeEnd d e f → endStep c e .refusal ≡ 0 → staleOnEnd c x ≡ true → LikeEnd (d + 1) (endStep c e .state) f
 end-idle (on-sender c) d k x e f r h z st = let z : _≡_ {A = ℕ} 0 1 = cc in absurd (omega arith)
 end-idle (on-receiver c) d k x e f r h z st = let z : _≡_ {A = ℕ} 0 1 = cc in absurd (omega arith)
 end-idle (on-metrics c) d k x e f r h z st =
@@ -279,13 +279,13 @@ like-new k = record { west = one (k .west); east = one (k .east) }
     one : (n : EndNew) → LikeEnd 0 (newEnd n) (newEnd n)
     one n = record { sender = refl; receiver = refl; metrics = seen.like-itself (newMetrics (n .metrics)) (rules.new-metrics (n .metrics) .rule) }
 
-idle : (k : Two EndNew) (c : Call) (t : Two ℕ) (x : Two Log) (w v : Two End) → ReachedBoth k x w → LikeBoth t w v → isStale (entry ends c w x) ≡ true → LikeBoth (oneMore c t) (ends .step c w .state) v
+idle : (k : Two EndNew) (c : Call) (t : Two ℕ) (x : Two Log) (w v : Two End) → ReachedBoth k x w → LikeBoth t w v → staleEntry (entry ends c w x) ≡ true → LikeBoth (oneMore c t) (ends .step c w .state) v
 idle k c t x w v r l st = go (ends .step c w .refusal) refl st
   where
     s : Side
     s = c .side
 
-    go : (n : ℕ) → ends .step c w .refusal ≡ n → unlessRefused n (staleCall (c .call) (at s x)) ≡ true → LikeBoth (oneMore c t) (ends .step c w .state) v
+    go : (n : ℕ) → ends .step c w .refusal ≡ n → unlessRefused n (staleOnEnd (c .call) (at s x)) ≡ true → LikeBoth (oneMore c t) (ends .step c w .state) v
     go zero z st = like-struck s t w v l (end-idle (c .call) (at s t) (at s k) (at s x) (at s w) (at s v) (reached-at s k x w r) (like-at s t w v l) z st)
     go (suc n) z st = let z : _≡_ {A = ℕ} 0 1 = cc in absurd (omega arith)
 
@@ -317,7 +317,7 @@ module _ (k : Two EndNew) (h : List Call) (fits : All (ends .Fits) h) where
         (restored ends restore (statement.left k places h) (written k (callsLeft ends (statement.left k places h))) ≡ asTheyWere ends (statement.left k places h))
         × LikeBoth (struckOut k places h) (reached k h) (reached k (callsLeft ends (statement.left k places h)))
     side-by-side =
-        let r = strike-run ends stays (ReachedBoth k) (reached-next k) oneMore isStale restore LikeBoth
+        let r = strike-run ends stays (ReachedBoth k) (reached-next k) oneMore staleEntry restore LikeBoth
         (λ c t w v l ne. end-refusal (c .call) (at (c .side) t) (at (c .side) w) (at (c .side) v) (like-at (c .side) t w v l) ne)
         (λ c t x w v r l z. end-answer (c .call) (at (c .side) t) (at (c .side) k) (at (c .side) x) (at (c .side) w) (at (c .side) v) (reached-at (c .side) k x w r) (like-at (c .side) t w v l) z)
         (λ c t w v l y z. like-put (c .side) t w v l (end-state (c .call) (at (c .side) t) (at (c .side) w) (at (c .side) v) (like-at (c .side) t w v l) y z))

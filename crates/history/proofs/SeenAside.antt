@@ -225,7 +225,7 @@ module _ {d : ℕ} where
       rw (stale-is m rr ours now e st)
       (let a = l .low .above in let b = l .low .less in record { k = l .k; same = l .same; low = record { above = omega arith; less = omega arith } })
 
-  pub stale-idle : (c : MetricsCall) (x : List MetricsCall) (m n : MmpMetrics) → Tied x m → Like d m n → metricsStep c m .refusal ≡ 0 → exact.isStale c x ≡ true → Like (d + 1) (metricsStep c m .state) n
+  pub stale-idle : (c : MetricsCall) (x : List MetricsCall) (m n : MmpMetrics) → Tied x m → Like d m n → metricsStep c m .refusal ≡ 0 → exact.staleCall c x ≡ true → Like (d + 1) (metricsStep c m .state) n
   unfolding metricsStep
   stale-idle (MetricsCall.«process_receiver_report» rr ours now) x m n t l e st =
       stale-process m n rr ours now l (sym (process-refusal m rr ours now) ∙ e) (ap (λ (s : Saved). stale s rr) (t .kept) ∙ stale-agrees (exact.keptAfter x) rr ∙ st)

@@ -44,12 +44,12 @@ keptAfter (MetricsCall.«reports_seen» ∷ l) = keptAfter l
 keptAfter (MetricsCall.ask q ∷ l) = keptAfter l
 
 -- a report that is stale after these calls
-abbrev pub isStale : MetricsCall → List MetricsCall → Bool
-isStale (MetricsCall.«process_receiver_report» rr ours now) l = stale (keptAfter l) rr
-isStale MetricsCall.«reset_for_rekey» l = false
-isStale (MetricsCall.«update_reverse_delivery» packets highest) l = false
-isStale MetricsCall.«reports_seen» l = false
-isStale (MetricsCall.ask q) l = false
+abbrev pub staleCall : MetricsCall → List MetricsCall → Bool
+staleCall (MetricsCall.«process_receiver_report» rr ours now) l = stale (keptAfter l) rr
+staleCall MetricsCall.«reset_for_rekey» l = false
+staleCall (MetricsCall.«update_reverse_delivery» packets highest) l = false
+staleCall MetricsCall.«reports_seen» l = false
+staleCall (MetricsCall.ask q) l = false
 
 -- ---- the round trips, the first one first
 -- our time less echo and dwell, in whole ms: with an echo, and where our time is past both ("10 ms / zero / arithmetic failure")

@@ -19,7 +19,7 @@ use Rattle.history.specs.MetricsCalls.{MetricsNew, MetricsCall}
 use Rattle.history.specs.ExactJitter.{differences}
 use Rattle.history.specs.ExactRoundTrip.{roundTrips}
 use Rattle.history.specs.Ends.{EndNew, on-receiver, on-metrics, Side, Two, Call, ends}
-use Rattle.history.specs.NoCreep.{written, reached, accepted, recorded, jitterAverage, isStale}
+use Rattle.history.specs.NoCreep.{written, reached, accepted, recorded, jitterAverage, staleEntry}
 
 -- two ends, each with a window of two samples
 abbrev pub end : EndNew
@@ -116,7 +116,7 @@ reportIn (Answer.outcome o) = []
 pub record Worked : Type 0 where
   -- the five calls with reports
   pub reports-accepted : refusals reports ≡ 0 ∷ 0 ∷ 0 ∷ 0 ∷ 0 ∷ []
-  pub second-stale : map isStale (written begin reports) ≡ false ∷ true ∷ false ∷ false ∷ false ∷ []
+  pub second-stale : map staleEntry (written begin reports) ≡ false ∷ true ∷ false ∷ false ∷ false ∷ []
   pub trips : roundTrips taken ≡ 10000 ∷ 18000 ∷ 10000 ∷ []
   -- S = 10875 µs and V = 4562.5 µs; SRTT and RTTVAR
   pub averages : averageOf (roundTrips taken) ≡ average 3 5568000 2336000

@@ -113,17 +113,17 @@ ReportHolds n =
 
 -- ---- "Strike out any stale reports from the list"
 -- a report processed, not refused, and stale beside the report kept in the list's own sense
-abbrev pub staleCall : EndCall → Log → Bool
-staleCall (on-sender c) x = false
-staleCall (on-receiver c) x = false
-staleCall (on-metrics c) x = exact.isStale c (x .metrics)
+abbrev pub staleOnEnd : EndCall → Log → Bool
+staleOnEnd (on-sender c) x = false
+staleOnEnd (on-receiver c) x = false
+staleOnEnd (on-metrics c) x = exact.staleCall c (x .metrics)
 
 abbrev pub unlessRefused : ℕ → Bool → Bool
 unlessRefused zero b = b
 unlessRefused (suc n) b = false
 
-abbrev pub isStale : Entry ends → Bool
-isStale n = unlessRefused (n .refusal) (staleCall (n .call .call) (at (n .call .side) (n .before)))
+abbrev pub staleEntry : Entry ends → Bool
+staleEntry n = unlessRefused (n .refusal) (staleOnEnd (n .call .call) (at (n .call .side) (n .before)))
 
 -- how many were struck out at each end
 abbrev pub oneMore : Call → Two ℕ → Two ℕ
@@ -134,10 +134,10 @@ noneStruck = record { west = 0; east = 0 }
 
 -- the entries left when the stale ones at the places given, one, some or all, are taken out
 abbrev pub left : Two EndNew → (ℕ → Bool) → List Call → List (Left ends (Two ℕ))
-left k places h = run.left ends oneMore isStale places noneStruck (written k h)
+left k places h = run.left ends oneMore staleEntry places noneStruck (written k h)
 
 abbrev pub struckOut : Two EndNew → (ℕ → Bool) → List Call → Two ℕ
-struckOut k places h = run.struckOut ends oneMore isStale places noneStruck (written k h)
+struckOut k places h = run.struckOut ends oneMore staleEntry places noneStruck (written k h)
 
 -- "but for the count of reports seen": it is lower by what was struck out before at that end. Put back in its accessor's answer ..
 abbrev pub raisedFact : ℕ → Fact → Fact
