@@ -97,12 +97,19 @@ fn follow(history: &History, worst: &mut Worst) -> (Vec<Entry>, [End; 2]) {
     let mut ends = history.begun.clone();
     let mut reports = [Reports::default(), Reports::default()];
     let mut frames = [Frames::default(), Frames::default()];
+    let mut processed = [0; 2];
     let mut entries = vec![];
     for (side, call) in &history.calls {
         let case = ends[*side].call(call);
         let mut made = entry(call, &case);
+        assert!(made.refusal != 1, "a call was refused by the rule");
         match call {
             Call::Metrics(call) if made.refusal == 0 => {
+                processed[*side] += u64::from(matches!(call, metrics_call::Call::Process { .. }));
+                assert!(
+                    ends[*side].metrics.fields.reports_seen == processed[*side],
+                    "reports seen are not those processed"
+                );
                 made.stale = reports[*side].stale(call);
                 reports[*side].hear(call);
                 worst.round_trip(&ends[*side], &reports[*side]);
@@ -120,15 +127,15 @@ fn follow(history: &History, worst: &mut Worst) -> (Vec<Entry>, [End; 2]) {
     (entries, ends)
 }
 
-/// The records, but for the counts of reports seen.
-fn records(ends: &[End; 2]) -> Vec<Vec<u64>> {
-    let of = |end: &End| {
+/// The records, with so many reports more seen at each end.
+fn records(ends: &[End; 2], more: [u64; 2]) -> Vec<Vec<u64>> {
+    let of = |(end, more): (&End, u64)| {
         let mut metrics = end.metrics;
-        metrics.fields.reports_seen = 0;
+        metrics.fields.reports_seen += more;
         let receiver = [end.receiver.numbers(), end.receiver.ring.windows()].concat();
         vec![end.sender.numbers().to_vec(), receiver, metrics.numbers()]
     };
-    ends.iter().flat_map(of).collect()
+    ends.iter().zip(more).flat_map(of).collect()
 }
 
 #[derive(Default)]
@@ -138,7 +145,8 @@ struct Struck {
     answers: usize,
 }
 
-/// Takes one, some or all of the stale calls out: every other answer, but for the count of reports seen, and the records stay.
+/// Takes one, some or all of the stale calls out: every other answer and the records stay, the count of reports seen lower by what was struck out before at
+/// that end.
 fn strike(rng: &mut Rng, history: &History, entries: &[Entry], ends: &[End; 2], struck: &mut Struck) {
     let stale: Vec<usize> = (0..entries.len()).filter(|i| entries[*i].stale).collect();
     if stale.is_empty() || entries.iter().any(|entry| entry.refusal == 10) {
@@ -162,13 +170,26 @@ fn strike(rng: &mut Rng, history: &History, entries: &[Entry], ends: &[End; 2], 
         begun: history.begun.clone(),
         calls: left.iter().map(|i| history.calls[*i].clone()).collect(),
     };
-    let (again, after) = follow(&shorter, &mut Worst::default());
-    for (entry, i) in again.iter().zip(&left) {
-        let seen = matches!(history.calls[*i].1, Call::Metrics(metrics_call::Call::Seen));
-        assert!(seen || entry.answer == entries[*i].answer, "an answer moved with a stale report");
-        struck.answers += usize::from(!seen);
+    let (mut again, after) = follow(&shorter, &mut Worst::default());
+    let out_before = |i: usize| {
+        let mut out = [0; 2];
+        for j in (0..i).filter(|j| left.binary_search(j).is_err()) {
+            out[history.calls[j].0] += 1;
+        }
+        out
+    };
+    for (entry, i) in again.iter_mut().zip(&left) {
+        let (side, call) = &history.calls[*i];
+        if matches!(call, Call::Metrics(metrics_call::Call::Seen)) {
+            entry.answer[1] += out_before(*i)[*side];
+        }
+        assert!(entry.answer == entries[*i].answer, "an answer moved with a stale report");
+        struck.answers += 1;
     }
-    assert!(records(&after) == records(ends), "a record moved with a stale report");
+    assert!(
+        records(&after, out_before(entries.len())) == records(ends, [0, 0]),
+        "a record moved with a stale report"
+    );
     struck.histories += 1;
     struck.calls += entries.len() - left.len();
 }
