@@ -8,7 +8,7 @@ use lib.Dec.{leb, ltb, eqb}
 use lib.IntN.{ℤ}
 use borrow.Author.Tests.{leb-true, ltb-true, le-leb, lt-ltb, ltb-false}
 use Rattle.refusals.specs.Questions.{question, firstNo}
-use Rattle.algorithms.specs.Owd.{capacityOk, countOk, firstOk, keepsRule, Rule, empty, newOf, chosen, clearAnswer, wrapped, free, grown, pushRefusal, pushAnswer}
+use Rattle.algorithms.specs.Owd.{capacityOk, countOk, firstOk, keepsRule, Rule, empty, newOf, chosen, clearAnswer, onward, free, grown, pushRefusal, pushAnswer}
 use Rattle.algorithms.specs.declared.owd.OwdTrendDetector.{OwdTrendDetector}
 
 pub rule : (s : OwdTrendDetector) → keepsRule s ≡ true → Rule s
@@ -32,25 +32,41 @@ keeps s r = rw (le-leb 2 (s .capacity) (r .least), le-leb (s .capacity) 4096 (r 
 empty-rule : (n : ℕ) → 2 ≤ n → n ≤ 4096 → Rule (empty n)
 empty-rule n l m = record { least = l; most = m; count = omega arith; first = omega arith }
 
-wrapped-below : (capacity k : ℕ) → k < capacity + capacity → wrapped capacity k < capacity
-wrapped-below capacity k h = go (ltb k capacity) (ltb-true k capacity) (ltb-false k capacity)
+onward-below : (capacity slot n : ℕ) → slot < capacity → n ≤ capacity → onward capacity slot n < capacity
+onward-below capacity slot n s h = go (ltb n (capacity - slot)) (ltb-true n (capacity - slot)) (ltb-false n (capacity - slot))
   where
-    go : (b : Bool) → (b ≡ true → k < capacity) → (b ≡ false → capacity ≤ k) → cond b k (k - capacity) < capacity
-    go true p q = p refl
+    go : (b : Bool) → (b ≡ true → n < capacity - slot) → (b ≡ false → capacity - slot ≤ n) → cond b (slot + n) (n - (capacity - slot)) < capacity
+    go true p q = let l = p refl in omega arith
     go false p q = let l = q refl in omega arith
 
 pub free-below : (s : OwdTrendDetector) → Rule s → free s < s .capacity
 unfolding free
-free-below s r = wrapped-below (s .capacity) (s .first + s .count) (omega arith)
+free-below s r = onward-below (s .capacity) (s .first) (s .count) (r .first) (r .count)
 
 pub grown-rule : (s : OwdTrendDetector) → Rule s → Rule (grown s)
 unfolding grown
 grown-rule s r = go (ltb (s .count) (s .capacity)) (ltb-true (s .count) (s .capacity))
   where
     go : (b : Bool) → (b ≡ true → s .count < s .capacity)
-        → Rule (chosen b (record { capacity = s .capacity; count = s .count + 1; first = s .first }) (record { capacity = s .capacity; count = s .count; first = wrapped (s .capacity) (s .first + 1) }))
+        → Rule (chosen b (record { capacity = s .capacity; count = s .count + 1; first = s .first }) (record { capacity = s .capacity; count = s .count; first = onward (s .capacity) (s .first) 1 }))
     go true p = let l = p refl in record { least = r .least; most = r .most; count = omega arith; first = r .first }
-    go false p = record { least = r .least; most = r .most; count = r .count; first = wrapped-below (s .capacity) (s .first + 1) (omega (arith, r .first, r .least)) }
+    go false p = record { least = r .least; most = r .most; count = r .count; first = onward-below (s .capacity) (s .first) 1 (r .first) (omega (arith, r .least)) }
+
+-- ---- the steps of a record that has asked
+pub cleared-keeps-rule : (s : OwdTrendDetector) → keepsRule s ≡ true → keepsRule (empty (s .capacity)) ≡ true
+cleared-keeps-rule s h = let r = rule s h in keeps (empty (s .capacity)) (empty-rule (s .capacity) (r .least) (r .most))
+
+pub grown-keeps-capacity : (s : OwdTrendDetector) → grown s .capacity ≡ s .capacity
+unfolding grown
+grown-keeps-capacity s = go (ltb (s .count) (s .capacity))
+  where
+    go : (b : Bool)
+        → chosen b (record { capacity = s .capacity; count = s .count + 1; first = s .first }) (record { capacity = s .capacity; count = s .count; first = onward (s .capacity) (s .first) 1 }) .capacity ≡ s .capacity
+    go true = refl
+    go false = refl
+
+pub grown-keeps-rule : (s : OwdTrendDetector) → keepsRule s ≡ true → keepsRule (grown s) ≡ true
+grown-keeps-rule s h = keeps (grown s) (grown-rule s (rule s h))
 
 -- ---- the calls
 pub new-keeps-rule : (n : ℕ) → keepsRule (newOf n) ≡ true
@@ -63,8 +79,8 @@ chosen-keeps-rule false after given p q = q
 
 pub clear-keeps-rule : (s : OwdTrendDetector) → keepsRule s ≡ true → keepsRule (clearAnswer s .state) ≡ true
 unfolding clearAnswer
-clear-keeps-rule s h = let r = rule s h in chosen-keeps-rule (eqb (firstNo (question 1 (keepsRule s) ∷ [])) 0) (empty (s .capacity)) s (keeps (empty (s .capacity)) (empty-rule (s .capacity) (r .least) (r .most))) h
+clear-keeps-rule s h = chosen-keeps-rule (eqb (firstNo (question 1 (keepsRule s) ∷ [])) 0) (empty (s .capacity)) s (cleared-keeps-rule s h) h
 
 pub push-keeps-rule : (s : OwdTrendDetector) (times : List ℕ) (delays : List ℤ) (us : ℤ) → keepsRule s ≡ true → keepsRule (pushAnswer s times delays us .state) ≡ true
 unfolding pushAnswer
-push-keeps-rule s times delays us h = chosen-keeps-rule (eqb (pushRefusal s times delays us) 0) (grown s) s (keeps (grown s) (grown-rule s (rule s h))) h
+push-keeps-rule s times delays us h = chosen-keeps-rule (eqb (pushRefusal s times delays us) 0) (grown s) s (grown-keeps-rule s h) h

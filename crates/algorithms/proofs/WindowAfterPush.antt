@@ -12,7 +12,7 @@ use lib.ListN.{length, drop, getD, set, length-append, length-drop, length-set, 
 use lib.Seq.{getD-take, getD-drop, getD-append-add, getD-append-seam, getD-set-same, getD-set-other, ext-getD}
 use borrow.Author.Tests.{ltb-true, ltb-false}
 use Rattle.refusals.specs.Questions.{firstNo}
-use Rattle.algorithms.specs.Owd.{keepsRule, Rule, Lent, pairs, live, window, clearAnswer, wrapped, free, grown, pushRefusal, pushAnswer, stored}
+use Rattle.algorithms.specs.Owd.{keepsRule, Rule, Lent, pairs, live, window, clearAnswer, onward, free, grown, pushRefusal, pushAnswer, stored}
 use Rattle.algorithms.specs.declared.owd.OwdTrendDetector.{OwdTrendDetector}
 use Rattle.algorithms.proofs.OwdRuleKept.{free-below, grown-rule}
 use Rattle.algorithms.proofs.OwdGates.{push-in-order}
@@ -23,56 +23,61 @@ by-test : (b : Bool) → (b ≡ true) ⊎ (b ≡ false)
 by-test true = inl refl
 by-test false = inr refl
 
-wrapped-value : (capacity k : ℕ) → ((k < capacity) × (wrapped capacity k ≡ k)) ⊎ ((capacity ≤ k) × (wrapped capacity k ≡ k - capacity))
-wrapped-value capacity k = elim (by-test (ltb k capacity)) [ inl e ↦ inl (ltb-true k capacity e, rw e refl) | inr e ↦ inr (ltb-false k capacity e, rw e refl) ]
+onward-value : (capacity slot n : ℕ) → ((n < capacity - slot) × (onward capacity slot n ≡ slot + n)) ⊎ ((capacity - slot ≤ n) × (onward capacity slot n ≡ n - (capacity - slot)))
+onward-value capacity slot n = elim (by-test (ltb n (capacity - slot))) [ inl e ↦ inl (ltb-true n (capacity - slot) e, rw e refl) | inr e ↦ inr (ltb-false n (capacity - slot) e, rw e refl) ]
 
 -- a ring read twice over
-twice-at : {A : Type 0} (xs : List A) (k : ℕ) (d : A) → getD (xs ++ xs) k d ≡ getD xs (wrapped (length xs) k) d
-twice-at xs k d = elim (wrapped-value (length xs) k) [
-  | inl (l, e) ↦ List·getD-append xs xs d k l ∙ ap (λ (n : ℕ). getD xs n d) (sym e)
-  | inr (l, e) ↦ let split : k ≡ length xs + (k - length xs) = omega arith in ap (λ (n : ℕ). getD (xs ++ xs) n d) split ∙ getD-append-add xs xs (k - length xs) d ∙ ap (λ (n : ℕ). getD xs n d) (sym e)
+twice-at : {A : Type 0} (xs : List A) (slot n : ℕ) (d : A) → slot < length xs → getD (xs ++ xs) (slot + n) d ≡ getD xs (onward (length xs) slot n) d
+twice-at xs slot n d h = elim (onward-value (length xs) slot n) [
+  | inl (l, e) ↦ List·getD-append xs xs d (slot + n) (omega (arith, l)) ∙ ap (λ (k : ℕ). getD xs k d) (sym e)
+  | inr (l, e) ↦
+      let split : slot + n ≡ length xs + (n - (length xs - slot)) = omega (arith, l, h) in
+      ap (λ (k : ℕ). getD (xs ++ xs) k d) split ∙ getD-append-add xs xs (n - (length xs - slot)) d ∙ ap (λ (k : ℕ). getD xs k d) (sym e)
 ]
 
 -- the i-th live slot
-live-at : {A : Type 0} (s : OwdTrendDetector) (xs : List A) (i : ℕ) (d : A) → length xs ≡ s .capacity → i < s .count → getD (live s xs) i d ≡ getD xs (wrapped (s .capacity) (s .first + i)) d
-live-at s xs i d fit h =
-    getD-take (s .count) (drop (s .first) (xs ++ xs)) i d h ∙ getD-drop (s .first) (xs ++ xs) i d ∙ twice-at xs (s .first + i) d ∙ ap (λ (n : ℕ). getD xs (wrapped n (s .first + i)) d) fit
+live-at : {A : Type 0} (s : OwdTrendDetector) (xs : List A) (i : ℕ) (d : A) → s .first < s .capacity → length xs ≡ s .capacity → i < s .count → getD (live s xs) i d ≡ getD xs (onward (s .capacity) (s .first) i) d
+live-at s xs i d f fit h =
+    getD-take (s .count) (drop (s .first) (xs ++ xs)) i d h ∙ getD-drop (s .first) (xs ++ xs) i d ∙ twice-at xs (s .first) i d (omega (arith, f, fit)) ∙ ap (λ (n : ℕ). getD xs (onward n (s .first) i) d) fit
 
 -- how many pairs a push drops
 abbrev pub dropped : OwdTrendDetector → ℕ
 dropped s = s .count + 1 - s .capacity
 
-one-on : (capacity first i : ℕ) → first < capacity → i < capacity → wrapped capacity (wrapped capacity (first + 1) + i) ≡ wrapped capacity (first + (1 + i))
-one-on capacity first i f h = elim (wrapped-value capacity (first + 1)) [
-  | inl (a, p) ↦ ap (λ (n : ℕ). wrapped capacity n) (omega arith)
-  | inr (a, p) ↦ elim (wrapped-value capacity (wrapped capacity (first + 1) + i)) [
-    | inl (b, q) ↦ elim (wrapped-value capacity (first + (1 + i))) [ inl (d, t) ↦ omega arith | inr (d, t) ↦ omega arith ]
+one-on : (capacity first i : ℕ) → first < capacity → i < capacity → onward capacity (onward capacity first 1) i ≡ onward capacity first (1 + i)
+one-on capacity first i f h = elim (onward-value capacity first 1) [
+  | inl (a, p) ↦ elim (onward-value capacity (onward capacity first 1) i) [
+    | inl (b, q) ↦ elim (onward-value capacity first (1 + i)) [ inl (d, t) ↦ omega arith | inr (d, t) ↦ omega arith ]
+    | inr (b, q) ↦ elim (onward-value capacity first (1 + i)) [ inl (d, t) ↦ omega arith | inr (d, t) ↦ omega arith ]
+  ]
+  | inr (a, p) ↦ elim (onward-value capacity (onward capacity first 1) i) [
+    | inl (b, q) ↦ elim (onward-value capacity first (1 + i)) [ inl (d, t) ↦ omega arith | inr (d, t) ↦ omega arith ]
     | inr (b, q) ↦ absurd (omega arith)
   ]
 ]
 
 -- the live slots after a push are those before it less the dropped, and the free one
 shape : (s : OwdTrendDetector) → Rule s
-    → (grown s .capacity ≡ s .capacity) × (grown s .count + dropped s ≡ s .count + 1) × ((i : ℕ) → i < grown s .count → wrapped (s .capacity) (grown s .first + i) ≡ wrapped (s .capacity) (s .first + (dropped s + i)))
+    → (grown s .capacity ≡ s .capacity) × (grown s .count + dropped s ≡ s .count + 1) × ((i : ℕ) → i < grown s .count → onward (s .capacity) (grown s .first) i ≡ onward (s .capacity) (s .first) (dropped s + i))
 unfolding grown
 shape s r = elim (by-test (ltb (s .count) (s .capacity))) [
-  | inl e ↦ let l = ltb-true (s .count) (s .capacity) e in rw e (refl, omega (arith, l), λ i h. ap (λ (n : ℕ). wrapped (s .capacity) n) (omega (arith, l)))
-  | inr e ↦ let l = ltb-false (s .count) (s .capacity) e in rw e (refl, omega (arith, l, r .count), λ i h. one-on (s .capacity) (s .first) i (r .first) (omega (arith, r .count)) ∙ ap (λ (n : ℕ). wrapped (s .capacity) (s .first + (n + i))) (omega (arith, l, r .count)))
+  | inl e ↦ let l = ltb-true (s .count) (s .capacity) e in rw e (refl, omega (arith, l), λ i h. ap (λ (n : ℕ). onward (s .capacity) (s .first) n) (omega (arith, l)))
+  | inr e ↦ let l = ltb-false (s .count) (s .capacity) e in rw e (refl, omega (arith, l, r .count), λ i h. one-on (s .capacity) (s .first) i (r .first) (omega (arith, r .count)) ∙ ap (λ (n : ℕ). onward (s .capacity) (s .first) (n + i)) (omega (arith, l, r .count)))
 ]
 
 module _ {A : Type 0} (s : OwdTrendDetector) (xs : List A) (x : A) (r : Rule s) (fit : length xs ≡ s .capacity) where
   -- the slots before the free one are as they were
-  others : (i : ℕ) → i < s .count → dropped s ≤ i → wrapped (s .capacity) (s .first + i) ≢ free s
+  others : (i : ℕ) → i < s .count → dropped s ≤ i → onward (s .capacity) (s .first) i ≢ free s
   unfolding free
-  others i h k e = elim (wrapped-value (s .capacity) (s .first + i)) [
-    | inl (a, p) ↦ elim (wrapped-value (s .capacity) (s .first + s .count)) [ inl (b, q) ↦ omega arith | inr (b, q) ↦ omega (arith, r .count, r .first) ]
-    | inr (a, p) ↦ elim (wrapped-value (s .capacity) (s .first + s .count)) [ inl (b, q) ↦ omega arith | inr (b, q) ↦ omega (arith, r .count, r .first) ]
+  others i h k e = elim (onward-value (s .capacity) (s .first) i) [
+    | inl (a, p) ↦ elim (onward-value (s .capacity) (s .first) (s .count)) [ inl (b, q) ↦ omega arith | inr (b, q) ↦ omega (arith, r .count, r .first) ]
+    | inr (a, p) ↦ elim (onward-value (s .capacity) (s .first) (s .count)) [ inl (b, q) ↦ omega arith | inr (b, q) ↦ omega (arith, r .count, r .first) ]
   ]
 
   fit-after : length (set xs (free s) x) ≡ grown s .capacity
   fit-after = length-set xs (free s) x ∙ fit ∙ sym (shape s r .0)
 
-  newest : getD (set xs (free s) x) (wrapped (s .capacity) (s .first + s .count)) x ≡ x
+  newest : getD (set xs (free s) x) (onward (s .capacity) (s .first) (s .count)) x ≡ x
   unfolding free
   newest = getD-set-same xs (free s) x x (omega (arith, free-below s r, fit))
 
@@ -80,19 +85,19 @@ module _ {A : Type 0} (s : OwdTrendDetector) (xs : List A) (x : A) (r : Rule s) 
   pushed-at i h =
       let old = live s xs in
       let j = dropped s + i in
-      let slot = wrapped (s .capacity) (s .first + j) in
+      let slot = onward (s .capacity) (s .first) j in
       let full = live-length s xs r fit in
       let before : getD (live (grown s) (set xs (free s) x)) i x ≡ getD (set xs (free s) x) slot x =
-      live-at (grown s) (set xs (free s) x) i x fit-after h ∙ ap (λ (n : ℕ). getD (set xs (free s) x) (wrapped n (grown s .first + i)) x) (shape s r .0) ∙ ap (λ (n : ℕ). getD (set xs (free s) x) n x) (shape s r .2 i h) in
+      live-at (grown s) (set xs (free s) x) i x (grown-rule s r .first) fit-after h ∙ ap (λ (n : ℕ). getD (set xs (free s) x) (onward n (grown s .first) i) x) (shape s r .0) ∙ ap (λ (n : ℕ). getD (set xs (free s) x) n x) (shape s r .2 i h) in
       before
       ∙ elim (by-test (ltb j (s .count))) [
         | inl e ↦
             let l = ltb-true j (s .count) e in
-            getD-set-other xs (free s) slot x x (others j l (omega arith)) ∙ sym (List·getD-append old (x ∷ []) x j (omega (arith, full)) ∙ live-at s xs j x fit l)
+            getD-set-other xs (free s) slot x x (others j l (omega arith)) ∙ sym (List·getD-append old (x ∷ []) x j (omega (arith, full)) ∙ live-at s xs j x (r .first) fit l)
         | inr e ↦
             let l = ltb-false j (s .count) e in
             let at : j ≡ s .count = omega (arith, shape s r .1) in
-            ap (λ (n : ℕ). getD (set xs (free s) x) (wrapped (s .capacity) (s .first + n)) x) at ∙ newest ∙ sym (ap (λ (n : ℕ). getD (old ++ x ∷ []) n x) (at ∙ sym full) ∙ getD-append-seam old x [] x)
+            ap (λ (n : ℕ). getD (set xs (free s) x) (onward (s .capacity) (s .first) n) x) at ∙ newest ∙ sym (ap (λ (n : ℕ). getD (old ++ x ∷ []) n x) (at ∙ sym full) ∙ getD-append-seam old x [] x)
       ]
       ∙ sym (getD-drop (dropped s) (old ++ x ∷ []) i x)
 

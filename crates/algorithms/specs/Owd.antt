@@ -93,19 +93,19 @@ unfoldable pub clearAnswer : OwdTrendDetector → OwdUpdate
 clearAnswer s = update (firstNo (question 1 (keepsRule s) ∷ [])) (empty (s .capacity)) s
 
 -- ---- a push: "A full window drops its oldest pair": document 01, Jitter, delay trend and bursts
--- slot k of the ring, counted past its end again from slot 0
-abbrev pub wrapped : ℕ → ℕ → ℕ
-wrapped capacity k = cond (ltb k capacity) k (k - capacity)
+-- the slot n after this one, counted past the ring's end again from slot 0
+abbrev pub onward : ℕ → ℕ → ℕ → ℕ
+onward capacity slot n = cond (ltb n (capacity - slot)) (slot + n) (n - (capacity - slot))
 
 -- the slot after the newest pair; where the window is full it is the oldest pair's
 unfoldable pub free : OwdTrendDetector → ℕ
-free s = wrapped (s .capacity) (s .first + s .count)
+free s = onward (s .capacity) (s .first) (s .count)
 
 -- one pair more, and one that is full begins one slot later
 unfoldable pub grown : OwdTrendDetector → OwdTrendDetector
 grown s =
     chosen (ltb (s .count) (s .capacity)) (record { capacity = s .capacity; count = s .count + 1; first = s .first })
-    (record { capacity = s .capacity; count = s .count; first = wrapped (s .capacity) (s .first + 1) })
+    (record { capacity = s .capacity; count = s .count; first = onward (s .capacity) (s .first) 1 })
 
 -- questions 1, 4 and 5 of a push
 unfoldable pub pushRefusal : OwdTrendDetector → List ℕ → List ℤ → ℤ → ℕ

@@ -2,9 +2,10 @@
 
 ghost use mathlib.Core.Path.{_≡_};
 ghost use mathlib.Core.Bool.{true};
-ghost use Prim.Native.Nat.{_+_, _<_, min};
+ghost use Prim.Native.Nat.{_+_, min};
+ghost use lib.ListN.{set};
 ghost use Rattle.floats.specs.Operations.{zero-float};
-ghost use Rattle.algorithms.specs.Owd.{Rule, Lent, keepsRule, windowsOk, empty, newOf, clearAnswer, wrapped, free, grown, pushRefusal, pushAnswer, stored, window, samplesOk};
+ghost use Rattle.algorithms.specs.Owd.{Rule, Lent, keepsRule, windowsOk, empty, newOf, clearAnswer, onward, free, grown, pushRefusal, pushAnswer, stored, window, samplesOk};
 ghost use Rattle.algorithms.specs.OwdTrend.{time, delay, product, total, trendFrom, liveTrend, trendAnswer};
 ghost use Rattle.algorithms.specs.Passes.{Summed};
 use crate::passes::Moments;
@@ -24,11 +25,35 @@ pub struct OwdUpdate {
     pub state: OwdTrendDetector,
 }
 
-// Slot k of a ring, counted past its end again from slot 0.
-fn wrapped(capacity: usize, k: usize) -> usize
-    ensures { λ r. ⌜ r ≡ wrapped capacity k ⌝ }
+// The slot n after this one, counted past a ring's end again from slot 0.
+fn onward(capacity: usize, slot: usize, n: usize) -> usize
+    ensures { λ r. ⌜ r ≡ onward capacity slot n ⌝ }
 {
-    if k < capacity { k } else { k - capacity }
+    if slot < capacity {
+        let left = capacity - slot;
+        if n < left {
+            return slot + n;
+        }
+        return n - left;
+    }
+    n
+}
+
+// A slot past the end is not there to be written.
+fn put_time(times: &mut [u32], slot: usize, at_ms: u32)
+    ensures { λ _. ⌜ now (times .exit) ≡ set (now (times .entry)) slot «at_ms» ⌝ }
+{
+    if slot < times.len() {
+        times[slot] = at_ms;
+    }
+}
+
+fn put_delay(delays: &mut [i64], slot: usize, owd_us: i64)
+    ensures { λ _. ⌜ now (delays .exit) ≡ set (now (delays .entry)) slot «owd_us» ⌝ }
+{
+    if slot < delays.len() {
+        delays[slot] = owd_us;
+    }
 }
 
 impl OwdTrendDetector {
@@ -73,6 +98,13 @@ impl OwdTrendDetector {
         Self::empty(capacity)
     }
 
+    // `clear` for a record that has asked its questions.
+    pub fn clear_unchecked(self) -> Self
+        ensures { λ r. ⌜ r ≡ empty (self .capacity) ⌝ }
+    {
+        Self::empty(self.capacity)
+    }
+
     // Forget every pair, keeping the capacity.
     pub fn clear(self) -> OwdUpdate
         ensures { λ r. ⌜ r ≡ clearAnswer self ⌝ }
@@ -83,7 +115,7 @@ impl OwdTrendDetector {
         if refusal == 0 {
             OwdUpdate {
                 refusal,
-                state: Self::empty(self.capacity),
+                state: self.clear_unchecked(),
             }
         } else {
             OwdUpdate {
@@ -95,15 +127,13 @@ impl OwdTrendDetector {
 
     // The slot for the next pair: after the newest, and the oldest's where the window is full.
     fn free(self) -> usize
-        requires { ⌜ Rule self ⌝ }
-        ensures { λ r. ⌜ (r ≡ free self) × (r < self .capacity) ⌝ }
+        ensures { λ r. ⌜ r ≡ free self ⌝ }
     {
-        wrapped(self.capacity, self.first + self.count)
+        onward(self.capacity, self.first, self.count)
     }
 
     // One pair more; a full window has dropped its oldest.
     fn grown(self) -> Self
-        requires { ⌜ Rule self ⌝ }
         ensures { λ r. ⌜ r ≡ grown self ⌝ }
     {
         let mut s = self;
@@ -111,8 +141,26 @@ impl OwdTrendDetector {
             s.count = self.count + 1;
             return s;
         }
-        s.first = wrapped(self.capacity, self.first + 1);
+        s.first = onward(self.capacity, self.first, 1);
         s
+    }
+
+    // `push` for a record that has asked its questions: one slot of each buffer is set.
+    pub fn push_unchecked(
+        self,
+        times: &mut [u32],
+        delays: &mut [i64],
+        at_ms: u32,
+        owd_us: i64,
+    ) -> Self
+        ensures answer { λ r. ⌜ r ≡ grown self ⌝ }
+        ensures times { λ r. ⌜ now (times .exit) ≡ set (now (times .entry)) (free self) «at_ms» ⌝ }
+        ensures delays { λ r. ⌜ now (delays .exit) ≡ set (now (delays .entry)) (free self) «owd_us» ⌝ }
+    {
+        let slot = self.free();
+        put_time(times, slot, at_ms);
+        put_delay(delays, slot, owd_us);
+        self.grown()
     }
 
     // Add a pair: the receive time in ms and the delay in µs, both from a fixed reference.
@@ -127,12 +175,9 @@ impl OwdTrendDetector {
         q.delay_samples = refusals::ranges::delay_ok(owd_us);
         let refusal = q.first_no();
         if refusal == 0 {
-            let slot = self.free();
-            times[slot] = at_ms;
-            delays[slot] = owd_us;
             OwdUpdate {
                 refusal,
-                state: self.grown(),
+                state: self.push_unchecked(times, delays, at_ms, owd_us),
             }
         } else {
             OwdUpdate {

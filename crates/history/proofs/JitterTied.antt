@@ -100,10 +100,10 @@ counted-tied : (y : Sounds) (s : ReceiverState) (counter bytes : ℕ) (ce : Bool
 unfolding counted
 counted-tied y s counter bytes ce h = record { jitter = h .jitter; last = h .last; grace = h .grace }
 
-sampled-tied : (y : Sounds) (s : ReceiverState) (times : List ℕ) (delays : List ℤ) (timestamp now : ℕ) → Tied y s →
-    Tied (after (exact.sampled timestamp now) y) (taken s times delays timestamp now true)
+sampled-tied : (y : Sounds) (s : ReceiverState) (timestamp now : ℕ) → Tied y s →
+    Tied (after (exact.sampled timestamp now) y) (taken s timestamp now true)
 unfolding taken pushes measured unmeasured exact.differencesBy exact.lastBy exact.graceBy
-sampled-tied y s times delays timestamp now h =
+sampled-tied y s timestamp now h =
     rw (← h .grace, ← h .last, grace-agrees (s .«rekey_jitter_grace_until_ms») now) (go (inGrace (s .«rekey_jitter_grace_until_ms») now))
   where
     go : (b : Bool) →
@@ -113,7 +113,7 @@ sampled-tied y s times delays timestamp now h =
           last = exact.frame now timestamp;
           grace = cond b (graceIn (s .«rekey_jitter_grace_until_ms»)) exact.no-grace;
         })
-        (cond (not b) (measured s times delays timestamp now) (unmeasured s timestamp now true))
+        (cond (not b) (measured s timestamp now) (unmeasured s timestamp now true))
     go true = record { jitter = h .jitter; last = refl; grace = refl }
     go false = record { jitter = step-tied (s .«last_recv_ms») (s .«last_sender_timestamp») timestamp now (s .jitter) (y .differences) (h .jitter); last = refl; grace = refl }
 
@@ -122,7 +122,7 @@ frame-tied : (y : Sounds) (s : ReceiverState) (f : Frame) (sampled : Bool) → f
     Tied (after (exact.heard (ReceiverCall.«record_frame» f sampled)) y) (framing f sampled s .state)
 unfolding frameOf taken pushes unmeasured exact.differencesBy exact.lastBy exact.graceBy
 frame-tied y s f true e h =
-    rw e (sampled-tied y (counted s (f .counter) (f .bytes) (f .ce)) (f .times) (f .delays) (f .timestamp) (f .now) (counted-tied y s (f .counter) (f .bytes) (f .ce) h))
+    rw e (sampled-tied y (counted s (f .counter) (f .bytes) (f .ce)) (f .timestamp) (f .now) (counted-tied y s (f .counter) (f .bytes) (f .ce) h))
 frame-tied y s f false e h = rw e (counted-tied y s (f .counter) (f .bytes) (f .ce) h)
 
 -- ---- the other calls

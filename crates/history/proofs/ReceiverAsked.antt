@@ -1,12 +1,12 @@
 -- A receiver's record that keeps its rule is not refused by 1, and a call on it whose arguments answer yes is accepted or meets 10. Its window keeps the capacity
 -- that it was made with.
-use mathlib.Core.Path.{_≡_, refl, sym, _∙_, ap}
+use mathlib.Core.Path.{_≡_, refl}
 use mathlib.Core.Logic.{_≢_}
-use mathlib.Core.Bool.{Bool, true, false, cond, not, _&&_, _||_}
+use mathlib.Core.Bool.{Bool, true, false, cond, _&&_}
 use mathlib.Core.List.{List, [], _∷_, _++_}
 use Prim.Native.Nat.{ℕ, zero, suc, _^_}
 use native.Mathlib.Omega.{arith}
-use lib.Dec.{eqb, ltb}
+use lib.Dec.{eqb}
 use lib.IntN.{ℤ}
 use lib.ListN.{length, take, drop}
 use borrow.Author.Tests.{ltb-false, lt-leb}
@@ -17,13 +17,14 @@ use Rattle.refusals.specs.Ranges.{maxClock, clockOk, frameSizeOk, delayOk, smoo
 use Rattle.algorithms.specs.Owd as owds
 use Rattle.algorithms.specs.Owd.{windowsOk, samplesOk, pairs, window}
 use Rattle.algorithms.specs.declared.owd.OwdTrendDetector.{OwdTrendDetector}
-use Rattle.samples.specs.Delay.{restarts, delayOf, windowFor, pushed}
+use Rattle.samples.proofs.SampleKeepsRule.{pushed-keeps-capacity}
 use Rattle.receiver.specs.State.{keepsRule, refusalOf, clockRefusal, updated, startedAt, fresh, newRefusal, newOf, rekeyed, rekeyOf}
-use Rattle.receiver.specs.Frames.{counted, countersOk, measured, unmeasured, pushes, taken, frameRefusal, frameOf}
+use Rattle.receiver.specs.Frames.{counted, countersOk, measured, unmeasured, pushes, taken, sampleOk, frameRefusal, frameOf}
 use Rattle.receiver.specs.Reports.{someBuilt, noneBuilt, built, reportRefusal, builtOf}
 use Rattle.receiver.specs.Pacing.{paced, countedPace, fromSrttRefusal, fromSrttOf, withBoundsRefusal, withBoundsOf, shouldSendOf}
 use Rattle.receiver.specs.declared.ReceiverState.{ReceiverState}
 use Rattle.receiver.proofs.RuleKept.{report-refusal}
+use Rattle.receiver.proofs.FrameAsked.{sample-in-range}
 use Rattle.history.specs.ReceiverCalls.{ReceiverNew, newReceiver, ReceiverQuestion, receiverTold, Frame, ReceiverCall, receiverStep}
 use Rattle.history.specs.Asked as paper
 use Rattle.history.specs.Asked.{Served}
@@ -33,28 +34,12 @@ use Rattle.history.proofs.Asked.{yesTo, one, not-one, others, served, c
 abbrev capacityIn : ReceiverState → ℕ
 capacityIn s = s .«owd_trend» .capacity
 
-chosen-capacity : (b : Bool) (v w : OwdTrendDetector) (n : ℕ) → v .capacity ≡ n → w .capacity ≡ n → owds.chosen b v w .capacity ≡ n
-chosen-capacity true v w n h k = h
-chosen-capacity false v w n h k = k
-
-window-capacity : (w : OwdTrendDetector) (b : Bool) → cond b (owds.clearAnswer w .state) w .capacity ≡ w .capacity
-unfolding owds.clearAnswer
-window-capacity w true = chosen-capacity (eqb (firstNo (question 1 (owds.keepsRule w) ∷ [])) 0) (owds.empty (w .capacity)) w (w .capacity) refl refl
-window-capacity w false = refl
-
-push-capacity : (w : OwdTrendDetector) (times : List ℕ) (ds : List ℤ) (us : ℤ) → owds.pushAnswer w times ds us .state .capacity ≡ w .capacity
-unfolding owds.pushAnswer owds.grown
-push-capacity w times ds us =
-    chosen-capacity (eqb (owds.pushRefusal w times ds us) 0) _ w (w .capacity) (chosen-capacity (ltb (w .count) (w .capacity)) _ _ (w .capacity) refl refl) refl
-
-taken-capacity : (s : ReceiverState) (times : List ℕ) (ds : List ℤ) (timestamp now : ℕ) (sampled : Bool) → capacityIn (taken s times ds timestamp now sampled) ≡ capacityIn s
-unfolding taken measured unmeasured pushed windowFor
-taken-capacity s times ds timestamp now sampled = go (pushes s now sampled) sampled
+taken-capacity : (s : ReceiverState) (timestamp now : ℕ) (sampled : Bool) → capacityIn (taken s timestamp now sampled) ≡ capacityIn s
+unfolding taken measured unmeasured
+taken-capacity s timestamp now sampled = go (pushes s now sampled) sampled
   where
-    go : (b c : Bool) → capacityIn (cond b (measured s times ds timestamp now) (unmeasured s timestamp now c)) ≡ capacityIn s
-    go true c =
-        push-capacity (windowFor (s .«owd_trend») (s .«owd_ref») now) times ds (delayOf (s .«owd_ref») timestamp now)
-        ∙ window-capacity (s .«owd_trend») (restarts (s .«owd_ref») now)
+    go : (b c : Bool) → capacityIn (cond b (measured s timestamp now) (unmeasured s timestamp now c)) ≡ capacityIn s
+    go true c = pushed-keeps-capacity (s .«owd_trend») (s .«owd_ref») now
     go false true = refl
     go false false = refl
 
@@ -68,8 +53,8 @@ updated-capacity n s t h = go (eqb n 0)
 frame-capacity : (s : ReceiverState) (f : Frame) (sampled : Bool) → capacityIn (frameOf s (f .times) (f .delays) (f .counter) (f .timestamp) (f .bytes) (f .ce) (f .now) sampled .state) ≡ capacityIn s
 unfolding frameOf counted
 frame-capacity s f sampled =
-    updated-capacity (frameRefusal s (f .times) (f .delays) (f .counter) (f .bytes) (f .now)) s _
-    (taken-capacity (counted s (f .counter) (f .bytes) (f .ce)) (f .times) (f .delays) (f .timestamp) (f .now) sampled)
+    updated-capacity (frameRefusal s (f .times) (f .delays) (f .counter) (f .timestamp) (f .bytes) (f .now) sampled) s _
+    (taken-capacity (counted s (f .counter) (f .bytes) (f .ce)) (f .timestamp) (f .now) sampled)
 
 report-capacity : (s : ReceiverState) (times : List ℕ) (ds : List ℤ) (now : ℕ) → capacityIn (builtOf s times ds now .state) ≡ capacityIn s
 unfolding builtOf built
@@ -82,7 +67,7 @@ report-capacity s times ds now = go (eqb (reportRefusal s times ds now) 0) (s .�
 
 rekeyed-capacity : (s : ReceiverState) (deadline : ℕ) → capacityIn (rekeyed s deadline) ≡ capacityIn s
 unfolding rekeyed
-rekeyed-capacity s deadline = window-capacity (s .«owd_trend») true
+rekeyed-capacity s deadline = refl
 
 pub capacity-next : (c : ReceiverCall) (s : ReceiverState) → capacityIn (receiverStep c s .state) ≡ capacityIn s
 unfolding receiverStep rekeyOf fromSrttOf countedPace withBoundsOf paced
@@ -157,18 +142,19 @@ told-lawful ReceiverQuestion.«report_interval_ms» s rule = rw rule
 told-lawful ReceiverQuestion.«last_recv_ms» s rule = rw rule
 told-lawful ReceiverQuestion.«ecn_ce_count» s rule = rw rule
 
-abbrev frameAsks : ReceiverState → Frame → List Question
-frameAsks s f =
+abbrev frameAsks : ReceiverState → Frame → Bool → List Question
+frameAsks s f sampled =
     question 1 (keepsRule s)
     ∷ question 2 (clockOk (f .now))
     ∷ question 3 (frameSizeOk (f .bytes))
     ∷ question 4 (windowsOk (s .«owd_trend») (length (f .times)) (length (f .delays)))
+    ∷ question 5 (sampleOk s (f .timestamp) (f .now) sampled)
     ∷ question 10 (countersOk s (f .counter) (f .bytes))
     ∷ []
 
 abbrev asks : ReceiverCall → ReceiverState → List Question
-asks (ReceiverCall.«record_frame» f sampled) s = frameAsks s f
-asks (ReceiverCall.«record_recv» f) s = frameAsks s f
+asks (ReceiverCall.«record_frame» f sampled) s = frameAsks s f sampled
+asks (ReceiverCall.«record_recv» f) s = frameAsks s f true
 asks (ReceiverCall.«reset_for_rekey» now) s = question 1 (keepsRule s) ∷ question 2 (clockOk now) ∷ []
 asks (ReceiverCall.«build_report» times ds now) s =
     question 1 (keepsRule s)
@@ -231,16 +217,16 @@ module _ (s : ReceiverState) (rule : keepsRule s ≡ true) where
     windows-yes : (times : List ℕ) (ds : List ℤ) → paper.windows capacity times ds ≡ true → windowsOk (s .«owd_trend») (length times) (length ds) ≡ true
     windows-yes times ds h = rw same h
 
-    frame-yes : (f : Frame) → paper.frame capacity f ≡ true → yesTo others (frameAsks s f) ≡ true
-    frame-yes f h =
+    frame-yes : (f : Frame) (sampled : Bool) → paper.frame capacity f ≡ true → yesTo others (frameAsks s f sampled) ≡ true
+    frame-yes f sampled h =
         let c = paper.clock (f .now) in
         let l = left (c && paper.frameSize (f .bytes)) (paper.windows capacity (f .times) (f .delays)) h in
         let w = right (c && paper.frameSize (f .bytes)) (paper.windows capacity (f .times) (f .delays)) h in
-        rw (rule, clock-yes (f .now) (left c (paper.frameSize (f .bytes)) l), size-yes (f .bytes) (right c (paper.frameSize (f .bytes)) l), windows-yes (f .times) (f .delays) w)
+        rw (rule, clock-yes (f .now) (left c (paper.frameSize (f .bytes)) l), size-yes (f .bytes) (right c (paper.frameSize (f .bytes)) l), windows-yes (f .times) (f .delays) w, sample-in-range s (f .timestamp) (f .now) sampled)
 
     yes : (c : ReceiverCall) → paper.receiverYes capacity c ≡ true → yesTo others (asks c s) ≡ true
-    yes (ReceiverCall.«record_frame» f sampled) h = frame-yes f h
-    yes (ReceiverCall.«record_recv» f) h = frame-yes f h
+    yes (ReceiverCall.«record_frame» f sampled) h = frame-yes f sampled h
+    yes (ReceiverCall.«record_recv» f) h = frame-yes f true h
     yes (ReceiverCall.«reset_for_rekey» now) h = rw (rule, clock-yes now h)
     yes (ReceiverCall.«build_report» times ds now) h =
         let l = left (paper.clock now && paper.windows capacity times ds) (paper.delays ds) h in

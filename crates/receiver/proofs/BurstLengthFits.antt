@@ -36,11 +36,11 @@ unfolding rekeyOf rekeyed
 rekey-fits s now h = updated-fits (clockRefusal s now) s (rekeyed s (now + grace)) h (omega arith)
 
 -- ---- a frame, a report
-taken-fits : (s : ReceiverState) (times : List ℕ) (delays : List ℤ) (timestamp now : ℕ) (sampled : Bool) → Fits s → Fits (taken s times delays timestamp now sampled)
+taken-fits : (s : ReceiverState) (timestamp now : ℕ) (sampled : Bool) → Fits s → Fits (taken s timestamp now sampled)
 unfolding taken measured unmeasured
-taken-fits s times delays timestamp now sampled h = go (pushes s now sampled) sampled
+taken-fits s timestamp now sampled h = go (pushes s now sampled) sampled
   where
-    go : (b c : Bool) → Fits (cond b (measured s times delays timestamp now) (unmeasured s timestamp now c))
+    go : (b c : Bool) → Fits (cond b (measured s timestamp now) (unmeasured s timestamp now c))
     go true c = h
     go false true = h
     go false false = h
@@ -49,8 +49,8 @@ pub frame-fits : (s : ReceiverState) (times : List ℕ) (delays : List ℤ) (cou
     → Fits (frameOf s times delays counter timestamp bytes ce now sampled .state)
 unfolding frameOf counted
 frame-fits s times delays counter timestamp bytes ce now sampled h =
-    updated-fits (frameRefusal s times delays counter bytes now) s (taken (counted s counter bytes ce) times delays timestamp now sampled) h
-    (taken-fits (counted s counter bytes ce) times delays timestamp now sampled (observed-fits (s .«gap_tracker») counter h))
+    updated-fits (frameRefusal s times delays counter timestamp bytes now sampled) s (taken (counted s counter bytes ce) timestamp now sampled) h
+    (taken-fits (counted s counter bytes ce) timestamp now sampled (observed-fits (s .«gap_tracker») counter h))
 
 pub report-fits : (s : ReceiverState) (times : List ℕ) (delays : List ℤ) (now : ℕ) → Fits s → Fits (builtOf s times delays now .state)
 unfolding builtOf built

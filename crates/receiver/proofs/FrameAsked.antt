@@ -1,7 +1,7 @@
 -- What a frame that nothing refuses knows of its record and its arguments, and that counting moves nothing that the windows hang on.
 -- Assumes nothing.
 use mathlib.Core.Path.{_≡_, refl}
-use mathlib.Core.Bool.{Bool, true, _&&_, and-eq-true-iff}
+use mathlib.Core.Bool.{Bool, true, false, not, _&&_, _||_, and-eq-true-iff}
 use mathlib.Core.List.{List, [], _∷_}
 use Prim.Native.Nat.{ℕ, _+_, _^_, _≤_}
 use native.Mathlib.Omega.{arith}
@@ -16,9 +16,9 @@ use Rattle.algorithms.specs.Owd.{windowsOk, pushRefusal}
 use Rattle.gaps.specs.Gaps.{burstsOk}
 use Rattle.samples.specs.Delay.{delayOf, windowFor}
 use Rattle.samples.proofs.DelayInRange.{delay-in-range}
-use Rattle.samples.proofs.SampleKeepsRule.{window-keeps-rule, window-keeps-lengths}
+use Rattle.samples.proofs.SampleKeepsRule.{window-keeps-rule, window-keeps-capacity}
 use Rattle.receiver.specs.State.{keepsRule}
-use Rattle.receiver.specs.Frames.{Room, counted, countersOk, pushes, pushNumber, timesAfter, delaysAfter, takenTimes, takenDelays, frameRefusal}
+use Rattle.receiver.specs.Frames.{Room, counted, countersOk, pushes, slotFor, takenTimes, takenDelays, sampleOk, frameRefusal}
 use Rattle.receiver.specs.declared.ReceiverState.{ReceiverState}
 use Rattle.receiver.proofs.QuestionsAnswered.{kept}
 
@@ -31,13 +31,24 @@ pub record FrameAsked (s : ReceiverState) (times : List ℕ) (delays : List ℤ)
   pub room : Room s bytes
   pub bursts : burstsOk (s .«gap_tracker») counter ≡ true
 
-pub frame-asked : (s : ReceiverState) (times : List ℕ) (delays : List ℤ) (counter bytes now : ℕ) → frameRefusal s times delays counter bytes now ≡ 0 → FrameAsked s times delays counter bytes now
+pub frame-asked : (s : ReceiverState) (times : List ℕ) (delays : List ℤ) (counter timestamp bytes now : ℕ) (sampled : Bool) → frameRefusal s times delays counter timestamp bytes now sampled ≡ 0
+    → FrameAsked s times delays counter bytes now
 unfolding frameRefusal
-frame-asked s times delays counter bytes now h =
-    let y = each-yes (question 1 (keepsRule s) ∷ question 2 (clockOk now) ∷ question 3 (frameSizeOk bytes) ∷ question 4 (windowsOk (s .«owd_trend») (length times) (length delays)) ∷ question 10 (countersOk s counter bytes) ∷ []) refl h in
+frame-asked s times delays counter timestamp bytes now sampled h =
+    let y =
+    each-yes (
+    question 1 (keepsRule s)
+    ∷ question 2 (clockOk now)
+    ∷ question 3 (frameSizeOk bytes)
+    ∷ question 4 (windowsOk (s .«owd_trend») (length times) (length delays))
+    ∷ question 5 (sampleOk s timestamp now sampled)
+    ∷ question 10 (countersOk s counter bytes)
+    ∷ []
+    )
+    refl h in
     let packets = counterOk 64 (s .«cumulative_packets_recv») 1 in
     let sizes = counterOk 64 (s .«cumulative_bytes_recv») bytes in
-    let all = and-eq-true-iff (packets && sizes) (burstsOk (s .«gap_tracker») counter) .0 (y .1 .1 .1 .1 .0) in
+    let all = and-eq-true-iff (packets && sizes) (burstsOk (s .«gap_tracker») counter) .0 (y .1 .1 .1 .1 .1 .0) in
     let each = and-eq-true-iff packets sizes .0 (all .0) in
     let fit = ltb-true (s .«cumulative_packets_recv» + 1) (2 ^ 64) (each .0) in
     let late = leb-true (s .«cumulative_reorder_count») (s .«cumulative_packets_recv») (kept s (y .0) .reorders) in
@@ -50,28 +61,37 @@ frame-asked s times delays counter bytes now h =
       bursts = all .1;
     }
 
--- question 5 of the sample that an accepted frame pushes is answered yes, and so are the push's own 1 and 4: nothing refuses the push
-pub pushed-sample-accepted : (s : ReceiverState) (times : List ℕ) (delays : List ℤ) (counter timestamp bytes now : ℕ) → frameRefusal s times delays counter bytes now ≡ 0 → pushNumber s times delays timestamp now ≡ 0
-unfolding pushNumber pushRefusal
-pushed-sample-accepted s times delays counter timestamp bytes now h =
-    let y = frame-asked s times delays counter bytes now h in
+or-yes : (b : Bool) → (b || true) ≡ true
+or-yes true = refl
+or-yes false = refl
+
+-- the sample that a frame pushes is in range, whatever the record, the timestamp and the clock
+pub sample-in-range : (s : ReceiverState) (timestamp now : ℕ) (sampled : Bool) → sampleOk s timestamp now sampled ≡ true
+sample-in-range s timestamp now sampled = rw (delay-in-range (s .«owd_ref») timestamp now) (or-yes (not (pushes s now sampled)))
+
+-- so that question 5 can be left out: the number of the first no is the same
+pub delay-question-left-out : (s : ReceiverState) (times : List ℕ) (delays : List ℤ) (counter timestamp bytes now : ℕ) (sampled : Bool)
+    → firstNo (question 1 (keepsRule s) ∷ question 2 (clockOk now) ∷ question 3 (frameSizeOk bytes) ∷ question 4 (windowsOk (s .«owd_trend») (length times) (length delays)) ∷ question 10 (countersOk s counter bytes) ∷ [])
+    ≡ frameRefusal s times delays counter timestamp bytes now sampled
+unfolding frameRefusal firstNo
+delay-question-left-out s times delays counter timestamp bytes now sampled = rw (sample-in-range s timestamp now sampled)
+
+-- a push by itself would be accepted too: its own questions of the window that an accepted frame pushes to are answered yes
+pub pushed-sample-accepted : (s : ReceiverState) (times : List ℕ) (delays : List ℤ) (counter timestamp bytes now : ℕ) (sampled : Bool) → frameRefusal s times delays counter timestamp bytes now sampled ≡ 0
+    → pushRefusal (windowFor (s .«owd_trend») (s .«owd_ref») now) times delays (delayOf (s .«owd_ref») timestamp now) ≡ 0
+unfolding pushRefusal
+pushed-sample-accepted s times delays counter timestamp bytes now sampled h =
+    let y = frame-asked s times delays counter timestamp bytes now sampled h in
     let w = windowFor (s .«owd_trend») (s .«owd_ref») now in
     let us = delayOf (s .«owd_ref») timestamp now in
     none-refuses (question 1 (owds.keepsRule w) ∷ question 4 (windowsOk w (length times) (length delays)) ∷ question 5 (delayOk us) ∷ [])
-    (window-keeps-rule (s .«owd_trend») (s .«owd_ref») now (kept s (y .rule) .window), (window-keeps-lengths (s .«owd_trend») (s .«owd_ref») now times delays (y .windows), (delay-in-range (s .«owd_ref») timestamp now, tt)))
+    (window-keeps-rule (s .«owd_trend») (s .«owd_ref») now (kept s (y .rule) .window), (rw (window-keeps-capacity (s .«owd_trend») (s .«owd_ref») now) (y .windows), (delay-in-range (s .«owd_ref») timestamp now, tt)))
 
--- put in its place, question 5 leaves the number of the first no as it is
-pub delay-question-left-out : (s : ReceiverState) (times : List ℕ) (delays : List ℤ) (counter timestamp bytes now : ℕ)
-    → firstNo (question 1 (keepsRule s) ∷ question 2 (clockOk now) ∷ question 3 (frameSizeOk bytes) ∷ question 4 (windowsOk (s .«owd_trend») (length times) (length delays)) ∷ question 5 (delayOk (delayOf (s .«owd_ref») timestamp now)) ∷ question 10 (countersOk s counter bytes) ∷ [])
-    ≡ frameRefusal s times delays counter bytes now
-unfolding frameRefusal firstNo
-delay-question-left-out s times delays counter timestamp bytes now = rw (delay-in-range (s .«owd_ref») timestamp now)
+module _ (s : ReceiverState) (counter bytes : ℕ) (ce : Bool) (timestamp now : ℕ) (sampled : Bool) where
+  pub counted-times : (times : List ℕ) → takenTimes (counted s counter bytes ce) times timestamp now sampled ≡ takenTimes s times timestamp now sampled
+  unfolding takenTimes pushes slotFor counted
+  counted-times times = refl
 
-module _ (s : ReceiverState) (counter bytes : ℕ) (ce : Bool) (times : List ℕ) (delays : List ℤ) (timestamp now : ℕ) (sampled : Bool) where
-  pub counted-times : takenTimes (counted s counter bytes ce) times delays timestamp now sampled ≡ takenTimes s times delays timestamp now sampled
-  unfolding takenTimes pushes timesAfter pushNumber counted
-  counted-times = refl
-
-  pub counted-delays : takenDelays (counted s counter bytes ce) times delays timestamp now sampled ≡ takenDelays s times delays timestamp now sampled
-  unfolding takenDelays pushes delaysAfter pushNumber counted
-  counted-delays = refl
+  pub counted-delays : (delays : List ℤ) → takenDelays (counted s counter bytes ce) delays timestamp now sampled ≡ takenDelays s delays timestamp now sampled
+  unfolding takenDelays pushes slotFor counted
+  counted-delays delays = refl

@@ -53,7 +53,7 @@ rekey-keeps-rule s now h =
     let k = kept s (y .0) in
     let l = y .1 in
     rw h (keeps _
-    (record { last-recv = refl; last-report = k .last-report; interval = k .interval; deadline = le-leb (now + grace) (maxClock + grace) (omega arith); jitter = refl; window = windows.clear-keeps-rule (s .«owd_trend») (k .window); reference = refl; tracker = trackers.fresh-keeps-rule; reorders = le-leb 0 (s .«cumulative_packets_recv») (omega arith) }))
+    (record { last-recv = refl; last-report = k .last-report; interval = k .interval; deadline = le-leb (now + grace) (maxClock + grace) (omega arith); jitter = refl; window = windows.cleared-keeps-rule (s .«owd_trend») (k .window); reference = refl; tracker = trackers.fresh-keeps-rule; reorders = le-leb 0 (s .«cumulative_packets_recv») (omega arith) }))
 
 -- ---- a frame
 module _ (s : ReceiverState) (rule : keepsRule s ≡ true) where
@@ -79,18 +79,18 @@ module _ (s : ReceiverState) (rule : keepsRule s ≡ true) where
       late true h = le-leb (s .«cumulative_reorder_count» + 1) (s .«cumulative_packets_recv» + 1) (omega arith)
       late false h = le-leb (s .«cumulative_reorder_count») (s .«cumulative_packets_recv» + 1) (omega arith)
 
-  measure-keeps-rule : (times : List ℕ) (delays : List ℤ) (timestamp now : ℕ) → clockOk now ≡ true → keepsRule (measured s times delays timestamp now) ≡ true
+  measure-keeps-rule : (timestamp now : ℕ) → clockOk now ≡ true → keepsRule (measured s timestamp now) ≡ true
   unfolding measured
-  measure-keeps-rule times delays timestamp now h =
+  measure-keeps-rule timestamp now h =
       let k = kept s rule in
-      keeps (measured s times delays timestamp now)
+      keeps (measured s timestamp now)
       (record {
         last-recv = h;
         last-report = k .last-report;
         interval = k .interval;
         deadline = refl;
         jitter = samples.jitter-keeps-rule (s .jitter) (s .«last_recv_ms») (s .«last_sender_timestamp») timestamp now (k .jitter);
-        window = samples.pushed-keeps-rule (s .«owd_trend») (s .«owd_ref») times delays timestamp now (k .window);
+        window = samples.pushed-keeps-rule (s .«owd_trend») (s .«owd_ref») now (k .window);
         reference = samples.base-keeps-rule (s .«owd_ref») now timestamp (k .reference) h;
         tracker = k .tracker;
         reorders = k .reorders;
@@ -114,12 +114,12 @@ module _ (s : ReceiverState) (rule : keepsRule s ≡ true) where
       })
   unmeasured-keeps-rule timestamp now false h = rule
 
-  take-keeps-rule : (times : List ℕ) (delays : List ℤ) (timestamp now : ℕ) (sampled : Bool) → clockOk now ≡ true → keepsRule (taken s times delays timestamp now sampled) ≡ true
+  take-keeps-rule : (timestamp now : ℕ) (sampled : Bool) → clockOk now ≡ true → keepsRule (taken s timestamp now sampled) ≡ true
   unfolding taken
-  take-keeps-rule times delays timestamp now sampled h = go (pushes s now sampled)
+  take-keeps-rule timestamp now sampled h = go (pushes s now sampled)
     where
-      go : (b : Bool) → keepsRule (cond b (measured s times delays timestamp now) (unmeasured s timestamp now sampled)) ≡ true
-      go true = measure-keeps-rule times delays timestamp now h
+      go : (b : Bool) → keepsRule (cond b (measured s timestamp now) (unmeasured s timestamp now sampled)) ≡ true
+      go true = measure-keeps-rule timestamp now h
       go false = unmeasured-keeps-rule timestamp now sampled h
 
 -- `record_recv` is the same with `sampled` true. That a burst's length is 16 bits is its type's
@@ -128,8 +128,8 @@ pub frame-keeps-rule : (s : ReceiverState) (times : List ℕ) (delays : List ℤ
     → keepsRule (frameOf s times delays counter timestamp bytes ce now sampled .state) ≡ true
 unfolding frameOf
 frame-keeps-rule s times delays counter timestamp bytes ce now sampled f h =
-    let y = frame-asked s times delays counter bytes now h in
-    rw h (take-keeps-rule (counted s counter bytes ce) (count-keeps-rule s (y .rule) counter bytes ce f (y .bursts)) times delays timestamp now sampled (y .clock))
+    let y = frame-asked s times delays counter timestamp bytes now sampled h in
+    rw h (take-keeps-rule (counted s counter bytes ce) (count-keeps-rule s (y .rule) counter bytes ce f (y .bursts)) timestamp now sampled (y .clock))
 
 -- ---- a report
 module _ (P : ReceiverReportBuilt → Type 0) (s : ReceiverState) (trend : ℤ) (now : ℕ) where

@@ -1,22 +1,21 @@
 -- A frame is received: document 01, "Jitter, delay trend and bursts", and receiver.rs, `record_frame`. Definitions only.
-use mathlib.Core.Bool.{Bool, true, cond, not, _&&_}
+use mathlib.Core.Bool.{Bool, true, cond, not, _&&_, _||_}
 use mathlib.Core.List.{List, [], _∷_}
 use Prim.Native.Nat.{ℕ, _+_, _-_, _^_, _<_, min, max}
 use lib.Dec.{eqb, ltb}
 use lib.IntN.{ℤ}
-use lib.ListN.{length}
+use lib.ListN.{length, set}
 use Rattle.refusals.specs.Questions.{question, firstNo}
-use Rattle.refusals.specs.Ranges.{clockOk, frameSizeOk, counterOk}
+use Rattle.refusals.specs.Ranges.{clockOk, frameSizeOk, delayOk, counterOk}
 use Rattle.refusals.specs.declared.option.OptionU64.{OptionU64}
 use Rattle.refusals.specs.declared.option.OptionU64.the-variants as option
-use Rattle.algorithms.specs.Owd.{windowsOk, pushRefusal, stored}
+use Rattle.algorithms.specs.Owd.{windowsOk, free}
 use Rattle.algorithms.specs.declared.jitter.JitterEstimator.{JitterEstimator}
 use Rattle.algorithms.specs.declared.owd.OwdTrendDetector.{OwdTrendDetector}
 use Rattle.gaps.specs.Gaps.{burstsOk, observed}
 use Rattle.samples.specs.Transit.{inGrace, jitterAfter}
-use Rattle.samples.specs.Delay.{baseOf, ageOf, delayOf, windowFor, pushed}
+use Rattle.samples.specs.Delay.{referenceAfter, ageOf, delayOf, windowFor, pushed}
 use Rattle.samples.specs.declared.OwdReference.{OwdReference}
-use Rattle.samples.specs.declared.OwdReference.the-variants as reference
 use Rattle.receiver.specs.State.{keepsRule, updated}
 use Rattle.receiver.specs.declared.ReceiverState.{ReceiverState}
 use Rattle.receiver.specs.declared.ReceiverUpdate.{ReceiverUpdate}
@@ -90,10 +89,10 @@ withTiming s jitter window ref deadline timestamp now =
     }
 
 -- a sample out of grace: jitter, trend, the reference that it was measured from, and no grace any more
-unfoldable pub measured : ReceiverState → List ℕ → List ℤ → ℕ → ℕ → ReceiverState
-measured s times delays timestamp now =
-    withTiming s (jitterAfter (s .jitter) (s .«last_recv_ms») (s .«last_sender_timestamp») timestamp now) (pushed (s .«owd_trend») (s .«owd_ref») times delays timestamp now)
-    (reference.Some (baseOf (s .«owd_ref») now timestamp .«recv_ms») (baseOf (s .«owd_ref») now timestamp .«sender_timestamp»)) option.None timestamp now
+unfoldable pub measured : ReceiverState → ℕ → ℕ → ReceiverState
+measured s timestamp now =
+    withTiming s (jitterAfter (s .jitter) (s .«last_recv_ms») (s .«last_sender_timestamp») timestamp now) (pushed (s .«owd_trend») (s .«owd_ref») now)
+    (referenceAfter (s .«owd_ref») now timestamp) option.None timestamp now
 
 -- "updates neither jitter nor trend, but does update the echo"; a frame not sampled moves nothing
 unfoldable pub unmeasured : ReceiverState → ℕ → ℕ → Bool → ReceiverState
@@ -103,45 +102,45 @@ unmeasured s timestamp now sampled = cond sampled (withTiming s (s .jitter) (s .
 unfoldable pub pushes : ReceiverState → ℕ → Bool → Bool
 pushes s now sampled = sampled && not (inGrace (s .«rekey_jitter_grace_until_ms») now)
 
-unfoldable pub taken : ReceiverState → List ℕ → List ℤ → ℕ → ℕ → Bool → ReceiverState
-taken s times delays timestamp now sampled = cond (pushes s now sampled) (measured s times delays timestamp now) (unmeasured s timestamp now sampled)
+unfoldable pub taken : ReceiverState → ℕ → ℕ → Bool → ReceiverState
+taken s timestamp now sampled = cond (pushes s now sampled) (measured s timestamp now) (unmeasured s timestamp now sampled)
 
--- ---- the windows: what a push writes, or nothing
-unfoldable pub pushNumber : ReceiverState → List ℕ → List ℤ → ℕ → ℕ → ℕ
-pushNumber s times delays timestamp now = pushRefusal (windowFor (s .«owd_trend») (s .«owd_ref») now) times delays (delayOf (s .«owd_ref») timestamp now)
+-- ---- the windows: one slot set by the frame that pushes a sample
+-- the free slot of the window, which a restart clears first
+unfoldable pub slotFor : ReceiverState → ℕ → ℕ
+slotFor s now = free (windowFor (s .«owd_trend») (s .«owd_ref») now)
 
-unfoldable pub timesAfter : ReceiverState → List ℕ → List ℤ → ℕ → ℕ → List ℕ
-timesAfter s times delays timestamp now = stored (pushNumber s times delays timestamp now) (windowFor (s .«owd_trend») (s .«owd_ref») now) (ageOf (s .«owd_ref») timestamp now) times
+unfoldable pub takenTimes : ReceiverState → List ℕ → ℕ → ℕ → Bool → List ℕ
+takenTimes s times timestamp now sampled = cond (pushes s now sampled) (set times (slotFor s now) (ageOf (s .«owd_ref») timestamp now)) times
 
-unfoldable pub delaysAfter : ReceiverState → List ℕ → List ℤ → ℕ → ℕ → List ℤ
-delaysAfter s times delays timestamp now = stored (pushNumber s times delays timestamp now) (windowFor (s .«owd_trend») (s .«owd_ref») now) (delayOf (s .«owd_ref») timestamp now) delays
-
-unfoldable pub takenTimes : ReceiverState → List ℕ → List ℤ → ℕ → ℕ → Bool → List ℕ
-takenTimes s times delays timestamp now sampled = cond (pushes s now sampled) (timesAfter s times delays timestamp now) times
-
-unfoldable pub takenDelays : ReceiverState → List ℕ → List ℤ → ℕ → ℕ → Bool → List ℤ
-takenDelays s times delays timestamp now sampled = cond (pushes s now sampled) (delaysAfter s times delays timestamp now) delays
+unfoldable pub takenDelays : ReceiverState → List ℤ → ℕ → ℕ → Bool → List ℤ
+takenDelays s delays timestamp now sampled = cond (pushes s now sampled) (set delays (slotFor s now) (delayOf (s .«owd_ref») timestamp now)) delays
 
 -- ---- the call
--- document 01, the checks: questions 1, 2, 3, 4 and 10. 5 is asked of the pushed sample and can't be answered no
-unfoldable pub frameRefusal : ReceiverState → List ℕ → List ℤ → ℕ → ℕ → ℕ → ℕ
-frameRefusal s times delays counter bytes now =
+-- document 01, question 5: the sample, where the frame pushes one
+abbrev pub sampleOk : ReceiverState → ℕ → ℕ → Bool → Bool
+sampleOk s timestamp now sampled = not (pushes s now sampled) || delayOk (delayOf (s .«owd_ref») timestamp now)
+
+-- document 01, the checks: questions 1, 2, 3, 4, 5 and 10
+unfoldable pub frameRefusal : ReceiverState → List ℕ → List ℤ → ℕ → ℕ → ℕ → ℕ → Bool → ℕ
+frameRefusal s times delays counter timestamp bytes now sampled =
     firstNo (
     question 1 (keepsRule s)
     ∷ question 2 (clockOk now)
     ∷ question 3 (frameSizeOk bytes)
     ∷ question 4 (windowsOk (s .«owd_trend») (length times) (length delays))
+    ∷ question 5 (sampleOk s timestamp now sampled)
     ∷ question 10 (countersOk s counter bytes)
     ∷ []
     )
 
 -- a frame of this counter, timestamp, size and mark, at this time, sampled or not: counted, then sampled
 unfoldable pub frameOf : ReceiverState → List ℕ → List ℤ → ℕ → ℕ → ℕ → Bool → ℕ → Bool → ReceiverUpdate
-frameOf s times delays counter timestamp bytes ce now sampled = updated (frameRefusal s times delays counter bytes now) s (taken (counted s counter bytes ce) times delays timestamp now sampled)
+frameOf s times delays counter timestamp bytes ce now sampled = updated (frameRefusal s times delays counter timestamp bytes now sampled) s (taken (counted s counter bytes ce) timestamp now sampled)
 
 -- the windows after it: as they were beside a refusal
 unfoldable pub frameTimes : ReceiverState → List ℕ → List ℤ → ℕ → ℕ → ℕ → ℕ → Bool → List ℕ
-frameTimes s times delays counter timestamp bytes now sampled = cond (eqb (frameRefusal s times delays counter bytes now) 0) (takenTimes s times delays timestamp now sampled) times
+frameTimes s times delays counter timestamp bytes now sampled = cond (eqb (frameRefusal s times delays counter timestamp bytes now sampled) 0) (takenTimes s times timestamp now sampled) times
 
 unfoldable pub frameDelays : ReceiverState → List ℕ → List ℤ → ℕ → ℕ → ℕ → ℕ → Bool → List ℤ
-frameDelays s times delays counter timestamp bytes now sampled = cond (eqb (frameRefusal s times delays counter bytes now) 0) (takenDelays s times delays timestamp now sampled) delays
+frameDelays s times delays counter timestamp bytes now sampled = cond (eqb (frameRefusal s times delays counter timestamp bytes now sampled) 0) (takenDelays s delays timestamp now sampled) delays

@@ -4,7 +4,9 @@ pub mod record; // frames/record.rt: the questions of a frame, and the frame rec
 
 ghost use mathlib.Core.Path.{_≡_};
 ghost use Prim.Native.Nat.{_+_, _<_, _^_, max};
-ghost use Rattle.receiver.specs.Frames.{Room, reordersAfter, markedAfter, counted, countersOk, withTiming, measured, unmeasured, pushes, taken, timesAfter, delaysAfter, takenTimes, takenDelays};
+ghost use lib.ListN.{set};
+ghost use Rattle.samples.specs.Delay.{ageOf, delayOf};
+ghost use Rattle.receiver.specs.Frames.{Room, reordersAfter, markedAfter, counted, countersOk, withTiming, measured, unmeasured, pushes, taken, slotFor, takenTimes, takenDelays};
 use crate::ReceiverState;
 use algorithms::jitter::JitterEstimator;
 use algorithms::owd::OwdTrendDetector;
@@ -12,10 +14,10 @@ use numbers::saturating_add;
 use refusals::option::OptionU64;
 use refusals::ranges::counter_u64_ok;
 use samples::OwdReference;
-use samples::base_of;
+use samples::base_of_unchecked;
 use samples::in_grace;
-use samples::jitter_after;
-use samples::sample_owd;
+use samples::jitter_after_unchecked;
+use samples::sample_owd_unchecked;
 
 // One more where the counter is below the highest: out of order.
 fn reorders_after(reorders: u64, highest: u64, counter: u64) -> u64
@@ -138,17 +140,17 @@ impl ReceiverState {
         timestamp: u32,
         now_ms: u64,
     ) -> ReceiverState
-        ensures answer { λ r. ⌜ r ≡ measured self (now (times .entry)) (now (delays .entry)) timestamp «now_ms» ⌝ }
-        ensures times { λ r. ⌜ now (times .exit) ≡ timesAfter self (now (times .entry)) (now (delays .entry)) timestamp «now_ms» ⌝ }
-        ensures delays { λ r. ⌜ now (delays .exit) ≡ delaysAfter self (now (times .entry)) (now (delays .entry)) timestamp «now_ms» ⌝ }
+        ensures answer { λ r. ⌜ r ≡ measured self timestamp «now_ms» ⌝ }
+        ensures times { λ r. ⌜ now (times .exit) ≡ set (now (times .entry)) (slotFor self «now_ms») (ageOf (self .«owd_ref») timestamp «now_ms») ⌝ }
+        ensures delays { λ r. ⌜ now (delays .exit) ≡ set (now (delays .entry)) (slotFor self «now_ms») (delayOf (self .«owd_ref») timestamp «now_ms») ⌝ }
     {
         let reference = self.owd_ref;
-        let base = base_of(reference, now_ms, timestamp);
+        let base = base_of_unchecked(reference, now_ms, timestamp);
         let owd_ref = OwdReference::Some(base.recv_ms, base.sender_timestamp);
         let last_recv_ms = self.last_recv_ms;
         let window = self.owd_trend;
         let last = self.jitter;
-        let jitter = jitter_after(
+        let jitter = jitter_after_unchecked(
             last,
             last_recv_ms,
             self.last_sender_timestamp,
@@ -156,7 +158,7 @@ impl ReceiverState {
             now_ms,
         );
         let none = OptionU64::None;
-        let owd_trend = sample_owd(window, reference, times, delays, timestamp, now_ms);
+        let owd_trend = sample_owd_unchecked(window, reference, times, delays, timestamp, now_ms);
         self.timed(jitter, owd_trend, owd_ref, none, timestamp, now_ms)
     }
 
@@ -176,9 +178,9 @@ impl ReceiverState {
         now_ms: u64,
         sampled: bool,
     ) -> ReceiverState
-        ensures answer { λ r. ⌜ r ≡ taken self (now (times .entry)) (now (delays .entry)) timestamp «now_ms» sampled ⌝ }
-        ensures times { λ r. ⌜ now (times .exit) ≡ takenTimes self (now (times .entry)) (now (delays .entry)) timestamp «now_ms» sampled ⌝ }
-        ensures delays { λ r. ⌜ now (delays .exit) ≡ takenDelays self (now (times .entry)) (now (delays .entry)) timestamp «now_ms» sampled ⌝ }
+        ensures answer { λ r. ⌜ r ≡ taken self timestamp «now_ms» sampled ⌝ }
+        ensures times { λ r. ⌜ now (times .exit) ≡ takenTimes self (now (times .entry)) timestamp «now_ms» sampled ⌝ }
+        ensures delays { λ r. ⌜ now (delays .exit) ≡ takenDelays self (now (delays .entry)) timestamp «now_ms» sampled ⌝ }
     {
         if self.pushes(now_ms, sampled) {
             self.measure(times, delays, timestamp, now_ms)

@@ -179,8 +179,7 @@ impl ReceiverState {
         ensures { λ r. ⌜ r ≡ rekeyed self «deadline_ms» ⌝ }
     {
         let jitter = JitterEstimator::new();
-        let owd_trend = self.owd_trend.clear();
-        let owd_trend = owd_trend.state;
+        let owd_trend = self.owd_trend.clear_unchecked();
         let owd_ref = OwdReference::None;
         let gap_tracker = GapTracker::new();
         let last_recv_ms = OptionU64::None;

@@ -8,7 +8,7 @@ use gaps::IntervalStats;
 use refusals::option::OptionU64;
 use refusals::questions::Questions;
 use refusals::ranges::clock_ok;
-use samples::echo_of;
+use samples::echo_of_unchecked;
 use wire::receiver_report::ReceiverReport;
 use wire::receiver_report::no_report;
 
@@ -49,7 +49,7 @@ impl ReceiverState {
         ensures { λ r. ⌜ r ≡ reportOf self stats «owd_trend» «now_ms» ⌝ }
     {
         let last_recv_ms = self.last_recv_ms;
-        let echo = echo_of(last_recv_ms, self.last_sender_timestamp, now_ms);
+        let echo = echo_of_unchecked(last_recv_ms, self.last_sender_timestamp, now_ms);
         let jitter = self.jitter.jitter_us();
         ReceiverReport {
             highest_counter: self.highest_counter,

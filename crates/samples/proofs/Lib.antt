@@ -4,3 +4,4 @@ pub mod Reduction
 pub mod WrappedTimestamp
 pub mod DelayInRange
 pub mod SampleKeepsRule
+pub mod SampleAsked

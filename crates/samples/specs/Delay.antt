@@ -1,16 +1,19 @@
 -- One-way delay from a reference: document 01, "Jitter, delay trend and bursts", and receiver.rs, `sample_owd`. Definitions only.
-use mathlib.Core.Bool.{Bool, true, false, cond}
-use mathlib.Core.List.{List}
+use mathlib.Core.Bool.{Bool, true, false, cond, _&&_}
+use mathlib.Core.List.{List, [], _∷_}
 use Prim.Native.Nat.{ℕ, _-_, _^_}
-use lib.Dec.{leb}
+use lib.Dec.{leb, eqb}
 use lib.IntN.{ℤ, pos, _-ℤ_, _*ℤ_}
-use Rattle.algorithms.specs.Owd.{clearAnswer, pushAnswer}
+use lib.ListN.{length}
+use Rattle.algorithms.specs.Owd.{keepsRule, windowsOk, empty, grown}
 use Rattle.algorithms.specs.declared.owd.OwdTrendDetector.{OwdTrendDetector}
-use Rattle.refusals.specs.Ranges.{clockOk}
+use Rattle.refusals.specs.Questions.{question, firstNo}
+use Rattle.refusals.specs.Ranges.{clockOk, delayOk}
 use Rattle.samples.specs.Words.{reduced}
 use Rattle.samples.specs.declared.OwdReference.{OwdReference}
 use Rattle.samples.specs.declared.OwdReference.the-variants.{None, Some}
 use Rattle.samples.specs.declared.OwdBase.{OwdBase}
+use Rattle.samples.specs.declared.OwdSampled.{OwdSampled}
 
 -- document 01, State rule: "the OWD reference is absent or a valid pair", its clock in range
 abbrev pub referenceOk : OwdReference → Bool
@@ -39,6 +42,10 @@ abbrev pub baseOf : OwdReference → ℕ → ℕ → OwdBase
 baseOf None now timestamp = base now timestamp
 baseOf (Some recv sent) now timestamp = younger (base recv sent) now timestamp
 
+-- the reference after a sample: what it was measured from
+abbrev pub referenceAfter : OwdReference → ℕ → ℕ → OwdReference
+referenceAfter r now timestamp = Some (baseOf r now timestamp .«recv_ms») (baseOf r now timestamp .«sender_timestamp»)
+
 -- the reference's age, 0 if the clock fell
 unfoldable pub ageOf : OwdReference → ℕ → ℕ → ℕ
 ageOf r timestamp now = now - baseOf r now timestamp .«recv_ms»
@@ -57,8 +64,32 @@ delayOf r timestamp now = delayUs (ageOf r timestamp now) (sentMs timestamp (bas
 
 -- the window, which a restart "first clears"
 unfoldable pub windowFor : OwdTrendDetector → OwdReference → ℕ → OwdTrendDetector
-windowFor w r now = cond (restarts r now) (clearAnswer w .state) w
+windowFor w r now = cond (restarts r now) (empty (w .capacity)) w
 
--- the window after the sample: the delay pushed at the reference's age
-unfoldable pub pushed : OwdTrendDetector → OwdReference → List ℕ → List ℤ → ℕ → ℕ → OwdTrendDetector
-pushed w r times delays timestamp now = pushAnswer (windowFor w r now) times delays (delayOf r timestamp now) .state
+-- the window after the sample: one pair more
+unfoldable pub pushed : OwdTrendDetector → OwdReference → ℕ → OwdTrendDetector
+pushed w r now = grown (windowFor w r now)
+
+-- ---- the call by itself
+-- document 01, the checks: question 1 of the window and the reference, 2, 4, and 5 of the sample
+unfoldable pub sampleRefusal : OwdTrendDetector → OwdReference → List ℕ → List ℤ → ℕ → ℕ → ℕ
+sampleRefusal w r times delays timestamp now =
+    firstNo (
+    question 1 (keepsRule w && referenceOk r)
+    ∷ question 2 (clockOk now)
+    ∷ question 4 (windowsOk w (length times) (length delays))
+    ∷ question 5 (delayOk (delayOf r timestamp now))
+    ∷ []
+    )
+
+-- the window and the reference after a sample whose refusal is n
+abbrev pub sampledBy : ℕ → OwdTrendDetector → OwdReference → ℕ → ℕ → OwdSampled
+sampledBy n w r timestamp now =
+    record {
+      refusal = n;
+      «owd_trend» = cond (eqb n 0) (pushed w r now) w;
+      «owd_ref» = cond (eqb n 0) (referenceAfter r now timestamp) r;
+    }
+
+unfoldable pub sampleOf : OwdTrendDetector → OwdReference → List ℕ → List ℤ → ℕ → ℕ → OwdSampled
+sampleOf w r times delays timestamp now = sampledBy (sampleRefusal w r times delays timestamp now) w r timestamp now

@@ -5,10 +5,11 @@ ghost use Prim.Native.Nat.{_<_, _^_};
 ghost use lib.IntN.{pos, subℕ, _-ℤ_};
 ghost use mir.Syntax.{w32};
 ghost use mir.Val.{toZ};
-ghost use Rattle.algorithms.specs.Owd.{pushRefusal, stored};
+ghost use lib.ListN.{set};
+ghost use Rattle.algorithms.specs.Owd.{free, stored};
 ghost use Rattle.samples.specs.Words.{modulo};
 ghost use Rattle.samples.specs.Transit.{inGrace, transit, jitterAfter};
-ghost use Rattle.samples.specs.Delay.{referenceOk, restarts, younger, baseOf, ageOf, delayUs, windowFor, delayOf, pushed};
+ghost use Rattle.samples.specs.Delay.{referenceOk, restarts, younger, baseOf, ageOf, delayUs, windowFor, delayOf, pushed, sampleRefusal, sampleOf};
 ghost use Rattle.samples.specs.Echo.{echoAfter, echoOf};
 use algorithms::jitter::JitterEstimator;
 use algorithms::owd::OwdTrendDetector;
@@ -16,6 +17,7 @@ use codec::fields::signed32;
 use numbers::saturating_sub;
 use numbers::signs::signed;
 use refusals::option::OptionU64;
+use refusals::questions::Questions;
 use refusals::ranges::clock_ok;
 
 // 2^30 ms, after which the one-way delay reference restarts: sender time changes sign at 2^31, so this leaves a wide margin.
@@ -34,6 +36,13 @@ pub enum OwdReference {
 pub struct OwdBase {
     pub recv_ms: u64,
     pub sender_timestamp: u32,
+}
+
+// A delay window and its reference after a sample.
+pub struct OwdSampled {
+    pub refusal: u8,
+    pub owd_trend: OwdTrendDetector,
+    pub owd_ref: OwdReference,
 }
 
 // What a report says of the last sampled frame: its timestamp, and how long ago it came.
@@ -63,7 +72,7 @@ fn transit(step_ms: u64, timestamp: u32, last_timestamp: u32) -> i32
 }
 
 // The jitter after a sample. The first sample has no step.
-pub fn jitter_after(
+pub fn jitter_after_unchecked(
     jitter: JitterEstimator,
     last_recv_ms: OptionU64,
     last_timestamp: u32,
@@ -120,7 +129,7 @@ fn younger(base: OwdBase, now_ms: u64, timestamp: u32) -> OwdBase
 }
 
 // What this sample is measured from: itself where there is no reference, or one too old.
-pub fn base_of(owd_ref: OwdReference, now_ms: u64, timestamp: u32) -> OwdBase
+pub fn base_of_unchecked(owd_ref: OwdReference, now_ms: u64, timestamp: u32) -> OwdBase
     ensures { λ r. ⌜ r ≡ baseOf «owd_ref» «now_ms» timestamp ⌝ }
 {
     match owd_ref {
@@ -174,15 +183,14 @@ fn window_for(window: OwdTrendDetector, owd_ref: OwdReference, now_ms: u64) -> O
     ensures { λ r. ⌜ r ≡ windowFor window «owd_ref» «now_ms» ⌝ }
 {
     if restarts(owd_ref, now_ms) {
-        let cleared = window.clear();
-        cleared.state
+        window.clear_unchecked()
     } else {
         window
     }
 }
 
 // Push one one-way delay sample, measured from the reference frame, at its receive offset.
-pub fn sample_owd(
+pub fn sample_owd_unchecked(
     window: OwdTrendDetector,
     owd_ref: OwdReference,
     times: &mut [u32],
@@ -190,17 +198,54 @@ pub fn sample_owd(
     timestamp: u32,
     now_ms: u64,
 ) -> OwdTrendDetector
-    ensures answer { λ r. ⌜ r ≡ pushed window «owd_ref» (now (times .entry)) (now (delays .entry)) timestamp «now_ms» ⌝ }
-    ensures times { λ r. ⌜ now (times .exit) ≡ stored (pushRefusal (windowFor window «owd_ref» «now_ms») (now (times .entry)) (now (delays .entry)) (delayOf «owd_ref» timestamp «now_ms»)) (windowFor window «owd_ref» «now_ms») (ageOf «owd_ref» timestamp «now_ms») (now (times .entry)) ⌝ }
-    ensures delays { λ r. ⌜ now (delays .exit) ≡ stored (pushRefusal (windowFor window «owd_ref» «now_ms») (now (times .entry)) (now (delays .entry)) (delayOf «owd_ref» timestamp «now_ms»)) (windowFor window «owd_ref» «now_ms») (delayOf «owd_ref» timestamp «now_ms») (now (delays .entry)) ⌝ }
+    ensures answer { λ r. ⌜ r ≡ pushed window «owd_ref» «now_ms» ⌝ }
+    ensures times { λ r. ⌜ now (times .exit) ≡ set (now (times .entry)) (free (windowFor window «owd_ref» «now_ms»)) (ageOf «owd_ref» timestamp «now_ms») ⌝ }
+    ensures delays { λ r. ⌜ now (delays .exit) ≡ set (now (delays .entry)) (free (windowFor window «owd_ref» «now_ms»)) (delayOf «owd_ref» timestamp «now_ms») ⌝ }
 {
-    let base = base_of(owd_ref, now_ms, timestamp);
+    let base = base_of_unchecked(owd_ref, now_ms, timestamp);
     let age = saturating_sub(now_ms, base.recv_ms);
     let word = sent_word(timestamp, base.sender_timestamp);
     let us = delay_us(age, word);
     let live = window_for(window, owd_ref, now_ms);
-    let update = live.push(times, delays, age as u32, us);
-    update.state
+    live.push_unchecked(times, delays, age as u32, us)
+}
+
+// The same behind its questions, with the reference after it. Question 5 is answered yes by every sample.
+pub fn sample_owd(
+    window: OwdTrendDetector,
+    owd_ref: OwdReference,
+    times: &mut [u32],
+    delays: &mut [i64],
+    timestamp: u32,
+    now_ms: u64,
+) -> OwdSampled
+    ensures answer { λ r. ⌜ r ≡ sampleOf window «owd_ref» (now (times .entry)) (now (delays .entry)) timestamp «now_ms» ⌝ }
+    ensures times { λ r. ⌜ now (times .exit) ≡ stored (sampleRefusal window «owd_ref» (now (times .entry)) (now (delays .entry)) timestamp «now_ms») (windowFor window «owd_ref» «now_ms») (ageOf «owd_ref» timestamp «now_ms») (now (times .entry)) ⌝ }
+    ensures delays { λ r. ⌜ now (delays .exit) ≡ stored (sampleRefusal window «owd_ref» (now (times .entry)) (now (delays .entry)) timestamp «now_ms») (windowFor window «owd_ref» «now_ms») (delayOf «owd_ref» timestamp «now_ms») (now (delays .entry)) ⌝ }
+{
+    let mut q = Questions::all_yes();
+    let window_kept = window.keeps_rule();
+    let reference_kept = reference_ok(owd_ref);
+    q.state = window_kept & reference_kept;
+    q.clocks = clock_ok(now_ms);
+    q.windows = window.windows_ok(times.len(), delays.len());
+    let refusal = q.first_no();
+    if refusal == 0 {
+        let base = base_of_unchecked(owd_ref, now_ms, timestamp);
+        let reference = OwdReference::Some(base.recv_ms, base.sender_timestamp);
+        let owd_trend = sample_owd_unchecked(window, owd_ref, times, delays, timestamp, now_ms);
+        OwdSampled {
+            refusal,
+            owd_trend,
+            owd_ref: reference,
+        }
+    } else {
+        OwdSampled {
+            refusal,
+            owd_trend: window,
+            owd_ref,
+        }
+    }
 }
 
 // --- Echo ---
@@ -223,7 +268,7 @@ fn echo_after(timestamp: u32, dwell_ms: u64) -> Echo
 }
 
 // The echo of a report at this time.
-pub fn echo_of(last_recv_ms: OptionU64, timestamp: u32, now_ms: u64) -> Echo
+pub fn echo_of_unchecked(last_recv_ms: OptionU64, timestamp: u32, now_ms: u64) -> Echo
     ensures { λ r. ⌜ r ≡ echoOf «last_recv_ms» timestamp «now_ms» ⌝ }
 {
     match last_recv_ms {

@@ -1,13 +1,13 @@
 -- `samples::window_for` meets its contract. Assumes nothing.
 use Rattle.refusals.proofs.PickedByTest.{yes, no}
-use mathlib.Core.Path.{refl, sym, ap, _∙_}
+use mathlib.Core.Path.{refl, sym, _∙_}
 use Rattle.samples.specs.Delay.{windowFor}
 use Rattle.samples.proofs.window_for.Statement.{statement}
 use Rattle.samples.proofs.window_for.Tie as tie
 
 cleared : tie.Need-returns
 unfolding windowFor
-cleared c = yes _ (sym (c .before .before .before .restarts .ensures) ∙ c .before .before .if1 .taken) (ap (λ u. u .state) (c .before .clear .ensures))
+cleared c = yes _ (sym (c .before .before .restarts .ensures) ∙ c .before .if1 .taken) (c .clear-unchecked .ensures)
 
 kept : tie.Need-returns-2
 unfolding windowFor

@@ -1,16 +1,16 @@
 -- `receiver::ReceiverState::measure` meets its contract. Assumes nothing.
 use borrow.Author.Needs.{needs}
-use Rattle.receiver.specs.Frames.{measured, pushNumber, timesAfter, delaysAfter}
+use Rattle.receiver.specs.Frames.{measured, slotFor}
 use Rattle.receiver.proofs.ReceiverState.measure.Statement.{statement}
 use Rattle.receiver.proofs.ReceiverState.measure.Tie as tie
 
 returns : tie.Need-returns
-unfolding measured pushNumber timesAfter delaysAfter
+unfolding measured slotFor
 returns c =
     let o = c .before .before .before .before in
     let j = o .before .before .before in
-    let e = o .sample-owd .ensures in (
-      rw (c .timed .ensures, e .0, j .jitter-after .ensures, j .before .before .before .base-of .ensures),
+    let e = o .sample-owd-unchecked .ensures in (
+      rw (c .timed .ensures, e .0, j .jitter-after-unchecked .ensures, j .before .before .before .base-of-unchecked .ensures),
       (e .1 .0, e .1 .1),
     )
 

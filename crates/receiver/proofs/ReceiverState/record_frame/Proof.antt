@@ -4,18 +4,19 @@ use mathlib.Core.Path.{_≡_, sym, _∙_}
 use native.Mathlib.Omega.{arith}
 use borrow.Author.Tests.{eq-eqb, ne-eqb}
 use Rattle.receiver.specs.Frames.{frameRefusal, frameOf, frameTimes, frameDelays}
-use Rattle.receiver.proofs.FrameAsked.{FrameAsked, frame-asked, counted-times, counted-delays}
+use Rattle.receiver.proofs.FrameAsked.{FrameAsked, frame-asked, delay-question-left-out, counted-times, counted-delays}
 use Rattle.receiver.proofs.ReceiverState.record_frame.Statement.{statement}
 use Rattle.receiver.proofs.ReceiverState.record_frame.Tie as tie
 
-gate : (c : tie.After-frame-refusal) → let a = c .before .before .args in c .frame-refusal .result ≡ frameRefusal (a .self) (a .times .now) (a .delays .now) (a .counter) (a .bytes) (a .now-ms)
-unfolding frameRefusal
-gate c = c .frame-refusal .ensures
+gate : (c : tie.After-frame-refusal) → let a = c .before .before .args in c .frame-refusal .result ≡ frameRefusal (a .self) (a .times .now) (a .delays .now) (a .counter) (a .sender-timestamp-ms) (a .bytes) (a .now-ms) (a .sampled)
+gate c =
+    let a = c .before .before .args in
+    c .frame-refusal .ensures ∙ delay-question-left-out (a .self) (a .times .now) (a .delays .now) (a .counter) (a .sender-timestamp-ms) (a .bytes) (a .now-ms) (a .sampled)
 
 answered : (c : tie.Then1) → let a = c .before .before .before .args in FrameAsked (a .self) (a .times .now) (a .delays .now) (a .counter) (a .bytes) (a .now-ms)
 answered c =
     let a = c .before .before .before .args in
-    frame-asked (a .self) (a .times .now) (a .delays .now) (a .counter) (a .bytes) (a .now-ms) (sym (gate (c .before)) ∙ c .if1 .taken)
+    frame-asked (a .self) (a .times .now) (a .delays .now) (a .counter) (a .sender-timestamp-ms) (a .bytes) (a .now-ms) (a .sampled) (sym (gate (c .before)) ∙ c .if1 .taken)
 
 cast : tie.Need-cast-count
 cast c = record { fits = omega (arith, answered c .size) }
@@ -34,8 +35,8 @@ accepted c =
     let e = t .take .ensures in (
       rw (e .0, n .count .ensures, gate b, z),
       (
-        rw (e .1 .0, n .count .ensures, z) (counted-times (a .self) (a .counter) (a .bytes) (a .ce-flag) (a .times .now) (a .delays .now) (a .sender-timestamp-ms) (a .now-ms) (a .sampled)),
-        rw (e .1 .1, n .count .ensures, z) (counted-delays (a .self) (a .counter) (a .bytes) (a .ce-flag) (a .times .now) (a .delays .now) (a .sender-timestamp-ms) (a .now-ms) (a .sampled)),
+        rw (e .1 .0, n .count .ensures, z) (counted-times (a .self) (a .counter) (a .bytes) (a .ce-flag) (a .sender-timestamp-ms) (a .now-ms) (a .sampled) (a .times .now)),
+        rw (e .1 .1, n .count .ensures, z) (counted-delays (a .self) (a .counter) (a .bytes) (a .ce-flag) (a .sender-timestamp-ms) (a .now-ms) (a .sampled) (a .delays .now)),
       ),
     )
 

@@ -14,8 +14,8 @@ keeps-rule-requires c κs = tt
 first-no-requires : tie.Need-first-no-requires
 first-no-requires c κs = tt
 
-empty-requires : tie.Need-empty-requires
-empty-requires c κs = tt
+clear-unchecked-requires : tie.Need-clear-unchecked-requires
+clear-unchecked-requires c κs = tt
 
 returns : tie.Need-returns
 unfolding clearAnswer firstNo asked
@@ -23,7 +23,7 @@ returns c =
     let g = c .before .before in
     let k = g .before .keeps-rule in
     let y = g .before .before .all-yes in
-    rw (c .empty .ensures)
+    rw (c .clear-unchecked .ensures)
     (accepted _ (g .first-no .result) (rw (g .first-no .ensures, y .ensures, k .ensures)) (c .before .if1 .taken) _ _)
 
 returns-2 : tie.Need-returns-2
@@ -41,6 +41,6 @@ clear-spec =
     all-yes-requires
     keeps-rule-requires
     first-no-requires
-    empty-requires
+    clear-unchecked-requires
     returns
     returns-2)
