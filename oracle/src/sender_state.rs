@@ -191,7 +191,13 @@ impl Sender {
         } else {
             let values = call.run(&mut s);
             let no_report_ms = self.no_report_ms;
-            (values, Sender { no_report_ms, ..Sender::of(&s) })
+            (
+                values,
+                Sender {
+                    no_report_ms,
+                    ..Sender::of(&s)
+                },
+            )
         };
         let mut answer = Numbers::of(&[refusal]).and(&values);
         if call.moves() {
