@@ -23,6 +23,19 @@ fn length_rule(pos: usize, n: usize, payload: &[u8]) -> [u64; 3] {
     }
 }
 
+/// The commit's answer to a reader at a place that is asked for n bytes, and whether it is the rule's because the commit has none.
+pub fn length_at(pos: usize, n: usize, payload: &[u8]) -> ([u64; 3], bool) {
+    match commit(|| reader(payload, pos).require(n)) {
+        Some(answer) => (length(&answer), false),
+        None => (length_rule(pos, n, payload), true),
+    }
+}
+
+/// What the commit's reader has left at a place that is not past the end.
+pub fn rest_at(pos: usize, payload: &[u8]) -> &[u8] {
+    reader(payload, pos).rest()
+}
+
 /// A read of n bytes: what is shown of the value, or `none` where it is refused.
 fn read<'a, T>(
     pos: usize,
@@ -53,7 +66,11 @@ fn numbers_of(bytes: &[u8]) -> Vec<u64> {
 
 /// Calls on a place and a payload.
 pub fn plain(call: u64, pos: usize, payload: &[u8]) -> Case {
-    let answer = match call {
+    Case::new(Numbers::of(&[call, pos as u64]).buffer(payload), plain_answer(call, pos, payload))
+}
+
+pub fn plain_answer(call: u64, pos: usize, payload: &[u8]) -> (Numbers, bool) {
+    match call {
         101 => match commit(|| reader(payload, pos).remaining()) {
             Some(n) => (Numbers::of(&[n as u64]), false),
             None => (Numbers::of(&[0]), true),
@@ -69,17 +86,16 @@ pub fn plain(call: u64, pos: usize, payload: &[u8]) -> Case {
         110 => read(pos, 2, payload, |r| r.read_array::<2>(), |v| numbers_of(&v), &[0; 2]),
         111 => read(pos, 4, payload, |r| r.read_array::<4>(), |v| numbers_of(&v), &[0; 4]),
         _ => read(pos, 8, payload, |r| r.read_array::<8>(), |v| numbers_of(&v), &[0; 8]),
-    };
-    Case::new(Numbers::of(&[call, pos as u64]).buffer(payload), answer)
+    }
 }
 
 /// Calls on a place, a count and a payload.
 pub fn counted(call: u64, pos: usize, n: usize, payload: &[u8]) -> Case {
     let answer = match call {
-        103 => match commit(|| reader(payload, pos).require(n)) {
-            Some(answer) => (Numbers::of(&length(&answer)), false),
-            None => (Numbers::of(&length_rule(pos, n, payload)), true),
-        },
+        103 => {
+            let (length, by_rule) = length_at(pos, n, payload);
+            (Numbers::of(&length), by_rule)
+        }
         104 => {
             let after = commit(|| {
                 let mut r = reader(payload, pos);

@@ -19,6 +19,7 @@ pub mod field_cases;
 pub mod figures;
 pub mod figures_cases;
 pub mod gap_cases;
+pub mod held_cases;
 pub mod histories;
 pub mod jitter_cases;
 pub mod lines;

@@ -8,7 +8,7 @@ use crate::rng::Rng;
 use crate::tables::{call, Call, Kind};
 
 /// Lines that are malformed whatever their call, or that have none.
-const PLAIN: [&str; 75] = [
+const PLAIN: [&str; 77] = [
     // no number, no call
     "",
     " ",
@@ -26,6 +26,8 @@ const PLAIN: [&str; 75] = [
     "149",
     "150",
     "156",
+    "160",
+    "175",
     "199",
     "200",
     "208",

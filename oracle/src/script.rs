@@ -9,7 +9,7 @@ use std::thread;
 use crate::case::Case;
 use crate::rng::Rng;
 use crate::tables::calls;
-use crate::{algorithms_cases, codec_cases, field_cases, malformed_cases, wire_cases};
+use crate::{algorithms_cases, codec_cases, field_cases, held_cases, malformed_cases, wire_cases};
 use crate::{figures_cases, metrics_cases, metrics_edges};
 use crate::{gap_cases, link_cases, receiver_cases, receiver_edges, sample_cases, sender_cases};
 
@@ -28,6 +28,7 @@ fn random_case(rng: &mut Rng, call: u64) -> Case {
     match call {
         101..=129 => codec_cases::random_case(rng, call),
         141..=155 => field_cases::random_case(rng, call),
+        161..=174 => held_cases::random_case(rng, call),
         201..=207 => wire_cases::random_case(rng, call),
         301..=357 => algorithms_cases::random_case(rng, call),
         401..=417 => sender_cases::random_case(rng, call),
@@ -55,6 +56,7 @@ const LINKS: usize = 4;
 pub fn stored(rng: &mut Rng) -> Vec<Case> {
     let mut cases = codec_cases::boundary_cases(rng);
     cases.extend(field_cases::boundary_cases(rng));
+    cases.extend(held_cases::boundary_cases(rng));
     cases.extend(wire_cases::boundary_cases(rng));
     cases.extend(algorithms_cases::boundary_cases(rng));
     cases.extend(sender_cases::boundary_cases());

@@ -72,7 +72,7 @@ pub record Read : Type 2 where
 
 module _ (X : Read) where
   -- the answer's type, and its laws
-  abbrev S : Declared.Declared
+  abbrev pub S : Declared.Declared
   S = record {
     name = X .name;
     args = [];
@@ -82,10 +82,10 @@ module _ (X : Read) where
     to-one = X .one;
   }
 
-  abbrev R : RattleType
+  abbrev pub R : RattleType
   R = Declared.row S
 
-  abbrev S-laws : LL.Laws S
+  abbrev pub S-laws : LL.Laws S
   S-laws = (N′.the-field-laws, (X .laws, (P′.the-field-laws, tt)))
 
   abbrev S-plain : Plains (Declared.fields S)
@@ -107,7 +107,7 @@ module _ (X : Read) where
   ended = record { signature = signature; kept = (yes, tt) }
 
   -- what the read finds from where a reader stands
-  abbrev found : Reader → X .Answer
+  abbrev pub found : Reader → X .Answer
   found h = X .read (now (h .buf)) (placeOf h)
 
   -- what the method does is what a contract says
@@ -133,7 +133,7 @@ module _ (X : Read) where
   Callee 𝓤 H A = tripleOf 𝓤 H A callee-signature (closing 𝓤 H A callee-ended (callee-clauses 𝓤))
 
   -- ---- the method's MIR, over the function's name
-  abbrev reader-name : Sym
+  abbrev pub reader-name : Sym
   reader-name = T.struct (record { mir = erased; lft = [] }) .name
 
   abbrev pub function : Name → Fn

@@ -3,7 +3,9 @@ mod Beside
 mod WrittenOut
 mod Held
 mod LentRead
+mod EachRead
 mod PassedOn
 mod NewThenPassedOn
+mod MadeThenLent
 mod Questions
 pub mod DecodedFromPosition

@@ -9,7 +9,11 @@ use Rattle.reader.specs.declared.Reader.{Reader}
 abbrev pub newOf : RefT (List ℕ) → Reader
 newOf payload = record { buf = payload; pos = 0 }
 
--- its position, as the functions on a slice and a place take it
+-- a position, as the functions on a slice and a place take it
+abbrev pub placeAt : ℕ → Place
+placeAt pos = record { pos = pos }
+
+-- a reader's own
 abbrev pub placeOf : Reader → Place
 placeOf r = record { pos = r .pos }
 

@@ -1,5 +1,6 @@
 // `Reader`, holding the payload that it was given: thin functions over those on a slice and a place. Their MIR is walked by hand, once for each form.
 pub mod reports; // reports.rt: the decoding of each report
+pub mod reads; // reads.rt: each read, by a reader made at a position
 
 ghost use mathlib.Core.Path.{_≡_};
 ghost use Prim.Native.Nat.{_-_};

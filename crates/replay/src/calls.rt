@@ -5,6 +5,7 @@ use crate::ewma_calls;
 use crate::field_calls;
 use crate::figure_calls;
 use crate::gap_calls;
+use crate::held_calls;
 use crate::jitter_calls;
 use crate::metrics_calls;
 use crate::owd_calls;
@@ -89,6 +90,7 @@ fn reply_on(given: &[u64], bytes: &mut [u8]) -> Reply {
         101..=112 => reader_calls::answer(given, bytes),
         121..=128 => writer_calls::answer(given, bytes),
         141..=155 => field_calls::answer(given, bytes),
+        161..=174 => held_calls::answer(given, bytes),
         _ => wire_calls::answer(given, bytes),
     }
 }

@@ -5,6 +5,7 @@ mod ewma_calls;
 mod field_calls;
 mod figure_calls;
 mod gap_calls;
+mod held_calls;
 mod jitter_calls;
 mod metrics_calls;
 mod owd_calls;

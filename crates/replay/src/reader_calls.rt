@@ -8,7 +8,7 @@ use crate::tables::u64_of;
 use crate::tables::usize_of;
 use crate::tables::wide;
 use codec::Place;
-use codec::reader;
+use codec::reader as at_place;
 use codec::reader::Advanced;
 use codec::reader::Length;
 use codec::reader::ReadArray2;
@@ -29,16 +29,16 @@ pub fn place_of(given: &[u64]) -> Place {
 pub fn answer(given: &[u64], payload: &[u8]) -> Reply {
     let at = place_of(given);
     match u64_of(given, 0) {
-        101 => one(wide(reader::remaining(payload, at))),
-        103 => length_answer(reader::require(payload, at, usize_of(given, 2))),
-        104 => of_advanced(reader::advance(payload, at, usize_of(given, 2))),
-        105 => of_u8(reader::read_u8(payload, at)),
-        106 => of_u16(reader::read_u16_le(payload, at)),
-        107 => of_u32(reader::read_u32_le(payload, at)),
-        108 => of_u64(reader::read_u64_le(payload, at)),
-        110 => of_array_2(reader::read_array_2(payload, at)),
-        111 => of_array_4(reader::read_array_4(payload, at)),
-        _ => of_array_8(reader::read_array_8(payload, at)),
+        101 => one(wide(at_place::remaining(payload, at))),
+        103 => length_answer(at_place::require(payload, at, usize_of(given, 2))),
+        104 => of_advanced(at_place::advance(payload, at, usize_of(given, 2))),
+        105 => of_u8(at_place::read_u8(payload, at)),
+        106 => of_u16(at_place::read_u16_le(payload, at)),
+        107 => of_u32(at_place::read_u32_le(payload, at)),
+        108 => of_u64(at_place::read_u64_le(payload, at)),
+        110 => of_array_2(at_place::read_array_2(payload, at)),
+        111 => of_array_4(at_place::read_array_4(payload, at)),
+        _ => of_array_8(at_place::read_array_8(payload, at)),
     }
 }
 
@@ -55,45 +55,45 @@ fn of_advanced(r: Advanced) -> Reply {
     length_answer(length).and_size(place.pos)
 }
 
-fn of_u8(r: ReadU8) -> Reply {
+pub fn of_u8(r: ReadU8) -> Reply {
     let length = r.length;
     let place = r.place;
     length_answer(length).and_u8(r.value).and_size(place.pos)
 }
 
-fn of_u16(r: ReadU16) -> Reply {
+pub fn of_u16(r: ReadU16) -> Reply {
     let length = r.length;
     let place = r.place;
     length_answer(length).and_u16(r.value).and_size(place.pos)
 }
 
-fn of_u32(r: ReadU32) -> Reply {
+pub fn of_u32(r: ReadU32) -> Reply {
     let length = r.length;
     let place = r.place;
     length_answer(length).and_u32(r.value).and_size(place.pos)
 }
 
-fn of_u64(r: ReadU64) -> Reply {
+pub fn of_u64(r: ReadU64) -> Reply {
     let length = r.length;
     let place = r.place;
     length_answer(length).and(r.value).and_size(place.pos)
 }
 
-fn of_array_2(r: ReadArray2) -> Reply {
+pub fn of_array_2(r: ReadArray2) -> Reply {
     let length = r.length;
     let bytes = r.bytes;
     let place = r.place;
     length_answer(length).and_bytes(&bytes).and_size(place.pos)
 }
 
-fn of_array_4(r: ReadArray4) -> Reply {
+pub fn of_array_4(r: ReadArray4) -> Reply {
     let length = r.length;
     let bytes = r.bytes;
     let place = r.place;
     length_answer(length).and_bytes(&bytes).and_size(place.pos)
 }
 
-fn of_array_8(r: ReadArray8) -> Reply {
+pub fn of_array_8(r: ReadArray8) -> Reply {
     let length = r.length;
     let bytes = r.bytes;
     let place = r.place;
@@ -103,11 +103,11 @@ fn of_array_8(r: ReadArray8) -> Reply {
 // The calls that answer a part of the payload.
 
 pub fn rest(given: &[u64], payload: &[u8], answer: &mut [u64]) -> usize {
-    push_buffer(answer, 0, reader::rest(payload, place_of(given)))
+    push_buffer(answer, 0, at_place::rest(payload, place_of(given)))
 }
 
 pub fn read_bytes(given: &[u64], payload: &[u8], answer: &mut [u64]) -> usize {
-    let r = reader::read_bytes(payload, place_of(given), usize_of(given, 2));
+    let r = at_place::read_bytes(payload, place_of(given), usize_of(given, 2));
     let length = r.length;
     let place = r.place;
     let n = length_answer(length).push(answer);

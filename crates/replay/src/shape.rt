@@ -210,7 +210,7 @@ fn record_end(call: u64) -> u64 {
 // The shape of a call's arguments; 0xf for a call that is none, which no number fits.
 fn shape_of(call: u64) -> u64 {
     match call {
-        101 | 102 | 105..=108 | 110..=112 | 122 | 129 | 141..=146 => 0x8b,
+        101 | 102 | 105..=108 | 110..=112 | 122 | 129 | 141..=146 | 161..=167 | 170 | 171 => 0x8b,
         103 | 104 | 109 | 126 | 154 => 0x88b,
         123 | 151 => 0x81b,
         124 | 152 => 0x82b,
@@ -224,7 +224,8 @@ fn shape_of(call: u64) -> u64 {
         201 => 0x8844488b,
         203 => 0x888422244a4444b,
         206 => 0x2b,
-        202 | 204 | 207 => 0xb,
+        168 | 169 | 172 | 173 | 202 | 204 | 207 => 0xb,
+        174 => 0x88,
         205 => 2,
         301..=357 => shape_of_figure(call),
         601..=637 => shape_of_link(call),

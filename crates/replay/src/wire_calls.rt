@@ -108,13 +108,13 @@ pub fn and_receiver_report(reply: Reply, r: ReceiverReport) -> Reply {
 }
 
 // A length answer and the fields.
-fn of_sender(d: sender_report::Decoded) -> Reply {
+pub fn of_sender(d: sender_report::Decoded) -> Reply {
     let report = d.report;
     let head = refusal(d.refusal).and_size(d.needed).and_size(d.given);
     and_sender_report(head, report)
 }
 
-fn of_receiver(d: receiver_report::Decoded) -> Reply {
+pub fn of_receiver(d: receiver_report::Decoded) -> Reply {
     let report = d.report;
     let head = refusal(d.refusal).and_size(d.needed).and_size(d.given);
     and_receiver_report(head, report)

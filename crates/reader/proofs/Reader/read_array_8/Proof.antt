@@ -1,43 +1,25 @@
 -- `Reader::read_array_8` meets its contract: it is a read of a lent reader. Assumes nothing.
 use mathlib.Core.Path.{refl}
 use base.Logic.{emp}
-use mir.Syntax.{tyInt, tyArray, w8}
 use contract.Monad.{factI}
 use contract.Running.{givenOf, tables, tablesOf}
-use denote.Struct.Field.{u8-field, array-field}
-use denote.Struct.Laws.{u8-laws, u8-plain, array-laws, array-plain}
 use denote.Triple.Spec.{tripleOf}
 use denote.Triple.Table.{entered, cited}
-use Rattle.codec.specs.Reading.{readArray8}
-use Rattle.codec.specs.declared.reader.ReadArray8.{ReadArray8}
-use Rattle.codec.proofs.reader.ReadArray8 as S
 use Rattle.codec.proofs.reader.read_array_8 as g
 use Rattle.codec.proofs.reader.read_array_8.Symbol as g-def
 use Rattle.codec.proofs.reader.read_array_8.Symbol.{name as #g}
 use Rattle.codec.proofs.reader.read_array_8.Met as g-thm
-use Rattle.reader.proofs.LentRead.{Read, meets}
+use Rattle.reader.proofs.LentRead.{meets}
+use Rattle.reader.proofs.EachRead.{of-array-8}
 use Rattle.reader.proofs.Reader.read_array_8.Key.{name as #f}
 use Rattle.reader.proofs.Reader.read_array_8 as f
 use Rattle.reader.proofs.Reader.read_array_8.Statement as stated
 use Rattle.reader.proofs.Reader.read_array_8.Code as code
-
-abbrev of-bytes : Read
-of-bytes = record {
-  name = S.struct .name;
-  value-type = tyArray (tyInt w8) 8;
-  value = array-field u8-field 8;
-  laws = array-laws u8-field u8-laws 8;
-  pure = array-plain u8-field u8-plain 8;
-  Answer = ReadArray8;
-  as-values = S.struct .as-values;
-  one = S.the-type .to-one;
-  read = readArray8;
-}
 
 pub read-array-8-spec : {M : Type 1} → stated.statement M
 unfolding code.routine tablesOf
 read-array-8-spec 𝓤 H 𝓜 𝓖 𝓡 =
     entered 𝓤 H (tripleOf 𝓤 H (𝓖 .A) f.signature (f.spec 𝓤 H (𝓖 .A) (𝓜 .mem) (𝓡 .run)))
     (tables 𝓤 H 𝓜 𝓡 code.env .C) (tables 𝓤 H 𝓜 𝓡 code.env .Λ) #f code.function (code.unfolded 𝓤 H 𝓜 𝓡)
-    (meets of-bytes 𝓤 H (𝓖 .A) (givenOf 𝓤 H 𝓜 𝓖) (f.clauses 𝓤 H (𝓖 .A) (𝓜 .mem) (𝓡 .run)) (λ κs a g. factI 𝓤 _ (emp 𝓤) (refl, refl)) #g (tablesOf 𝓤 H 𝓜 (tables 𝓤 H 𝓜 𝓡 code.env))
+    (meets of-array-8 𝓤 H (𝓖 .A) (givenOf 𝓤 H 𝓜 𝓖) (f.clauses 𝓤 H (𝓖 .A) (𝓜 .mem) (𝓡 .run)) (λ κs a g. factI 𝓤 _ (emp 𝓤) (refl, refl)) #g (tablesOf 𝓤 H 𝓜 (tables 𝓤 H 𝓜 𝓡 code.env))
     (cited 𝓤 H (tripleOf 𝓤 H (𝓖 .A) g.signature (g.spec 𝓤 H (𝓖 .A) (𝓜 .mem) (𝓡 .run))) 𝓜 𝓡 code.env #g g-def.routine code.calls-codec·reader·read-array-8 (g-thm.met 𝓤 H 𝓜 𝓖 𝓡)))

@@ -1,38 +1,20 @@
 -- `Reader::read_u16_le` meets its contract: it is a read of a lent reader. Assumes nothing.
 use mathlib.Core.Path.{refl}
 use base.Logic.{emp}
-use mir.Syntax.{tyInt, w16}
 use contract.Monad.{factI}
 use contract.Running.{givenOf, tables, tablesOf}
-use denote.Struct.Field.{u16-field}
-use denote.Struct.Laws.{u16-laws, u16-plain}
 use denote.Triple.Spec.{tripleOf}
 use denote.Triple.Table.{entered, cited}
-use Rattle.codec.specs.Reading.{readU16}
-use Rattle.codec.specs.declared.reader.ReadU16.{ReadU16}
-use Rattle.codec.proofs.reader.ReadU16 as S
 use Rattle.codec.proofs.reader.read_u16_le as g
 use Rattle.codec.proofs.reader.read_u16_le.Symbol as g-def
 use Rattle.codec.proofs.reader.read_u16_le.Symbol.{name as #g}
 use Rattle.codec.proofs.reader.read_u16_le.Met as g-thm
-use Rattle.reader.proofs.LentRead.{Read, meets}
+use Rattle.reader.proofs.LentRead.{meets}
+use Rattle.reader.proofs.EachRead.{of-u16}
 use Rattle.reader.proofs.Reader.read_u16_le.Key.{name as #f}
 use Rattle.reader.proofs.Reader.read_u16_le as f
 use Rattle.reader.proofs.Reader.read_u16_le.Statement as stated
 use Rattle.reader.proofs.Reader.read_u16_le.Code as code
-
-abbrev of-u16 : Read
-of-u16 = record {
-  name = S.struct .name;
-  value-type = tyInt w16;
-  value = u16-field;
-  laws = u16-laws;
-  pure = u16-plain;
-  Answer = ReadU16;
-  as-values = S.struct .as-values;
-  one = S.the-type .to-one;
-  read = readU16;
-}
 
 pub read-u16-le-spec : {M : Type 1} → stated.statement M
 unfolding code.routine tablesOf

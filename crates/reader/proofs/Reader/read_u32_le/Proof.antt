@@ -1,38 +1,20 @@
 -- `Reader::read_u32_le` meets its contract: it is a read of a lent reader. Assumes nothing.
 use mathlib.Core.Path.{refl}
 use base.Logic.{emp}
-use mir.Syntax.{tyInt, w32}
 use contract.Monad.{factI}
 use contract.Running.{givenOf, tables, tablesOf}
-use denote.Struct.Field.{u32-field}
-use denote.Struct.Laws.{u32-laws, u32-plain}
 use denote.Triple.Spec.{tripleOf}
 use denote.Triple.Table.{entered, cited}
-use Rattle.codec.specs.Reading.{readU32}
-use Rattle.codec.specs.declared.reader.ReadU32.{ReadU32}
-use Rattle.codec.proofs.reader.ReadU32 as S
 use Rattle.codec.proofs.reader.read_u32_le as g
 use Rattle.codec.proofs.reader.read_u32_le.Symbol as g-def
 use Rattle.codec.proofs.reader.read_u32_le.Symbol.{name as #g}
 use Rattle.codec.proofs.reader.read_u32_le.Met as g-thm
-use Rattle.reader.proofs.LentRead.{Read, meets}
+use Rattle.reader.proofs.LentRead.{meets}
+use Rattle.reader.proofs.EachRead.{of-u32}
 use Rattle.reader.proofs.Reader.read_u32_le.Key.{name as #f}
 use Rattle.reader.proofs.Reader.read_u32_le as f
 use Rattle.reader.proofs.Reader.read_u32_le.Statement as stated
 use Rattle.reader.proofs.Reader.read_u32_le.Code as code
-
-abbrev of-u32 : Read
-of-u32 = record {
-  name = S.struct .name;
-  value-type = tyInt w32;
-  value = u32-field;
-  laws = u32-laws;
-  pure = u32-plain;
-  Answer = ReadU32;
-  as-values = S.struct .as-values;
-  one = S.the-type .to-one;
-  read = readU32;
-}
 
 pub read-u32-le-spec : {M : Type 1} → stated.statement M
 unfolding code.routine tablesOf

@@ -1,38 +1,20 @@
 -- `Reader::read_u64_le` meets its contract: it is a read of a lent reader. Assumes nothing.
 use mathlib.Core.Path.{refl}
 use base.Logic.{emp}
-use mir.Syntax.{tyInt, w64}
 use contract.Monad.{factI}
 use contract.Running.{givenOf, tables, tablesOf}
-use denote.Struct.Field.{u64-field}
-use denote.Struct.Laws.{u64-laws, u64-plain}
 use denote.Triple.Spec.{tripleOf}
 use denote.Triple.Table.{entered, cited}
-use Rattle.codec.specs.Reading.{readU64}
-use Rattle.codec.specs.declared.reader.ReadU64.{ReadU64}
-use Rattle.codec.proofs.reader.ReadU64 as S
 use Rattle.codec.proofs.reader.read_u64_le as g
 use Rattle.codec.proofs.reader.read_u64_le.Symbol as g-def
 use Rattle.codec.proofs.reader.read_u64_le.Symbol.{name as #g}
 use Rattle.codec.proofs.reader.read_u64_le.Met as g-thm
-use Rattle.reader.proofs.LentRead.{Read, meets}
+use Rattle.reader.proofs.LentRead.{meets}
+use Rattle.reader.proofs.EachRead.{of-u64}
 use Rattle.reader.proofs.Reader.read_u64_le.Key.{name as #f}
 use Rattle.reader.proofs.Reader.read_u64_le as f
 use Rattle.reader.proofs.Reader.read_u64_le.Statement as stated
 use Rattle.reader.proofs.Reader.read_u64_le.Code as code
-
-abbrev of-u64 : Read
-of-u64 = record {
-  name = S.struct .name;
-  value-type = tyInt w64;
-  value = u64-field;
-  laws = u64-laws;
-  pure = u64-plain;
-  Answer = ReadU64;
-  as-values = S.struct .as-values;
-  one = S.the-type .to-one;
-  read = readU64;
-}
 
 pub read-u64-le-spec : {M : Type 1} → stated.statement M
 unfolding code.routine tablesOf
