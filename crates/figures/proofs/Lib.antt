@@ -2,3 +2,4 @@
 pub mod RatiosInRange
 pub mod GoodputInRange
 pub mod TripsInRange
+pub mod MillisecondsInRange
