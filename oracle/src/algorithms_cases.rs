@@ -19,7 +19,7 @@ pub fn random_case(rng: &mut Rng, call: u64) -> Case {
         301..=306 => jitter_cases::random_case(rng, call),
         311..=318 => srtt_cases::random_case(rng, call),
         321..=328 => ewma_cases::random_case(rng, call),
-        331..=336 => owd_cases::random_case(rng, call),
+        331..=338 => owd_cases::random_case(rng, call),
         341..=344 => etx_cases::random_case(rng, call),
         _ => spin_cases::random_case(rng, call),
     }

@@ -127,7 +127,7 @@ fn averages(points: &mut Points) {
         || jitter_cases::jitter_us(-1),
     );
     points.shown(
-        "`JitterEstimator::step`, the commit's `update`",
+        "`JitterEstimator::update_unchecked`, the commit's `update`",
         "scaled jitter −2, D 0",
         || format!("scaled jitter {}", jitter_cases::stepped(-2, 0)),
         || jitter_cases::step(-2, 0),
@@ -158,7 +158,7 @@ fn averages(points: &mut Points) {
         || srtt_cases::accessor(314, of(-1, 0, true)),
     );
     points.shown(
-        "`SrttEstimator::step`, the commit's `update`",
+        "`SrttEstimator::update_unchecked`, the commit's `update`",
         "a new state, round trip −1",
         || {
             let s = of(0, 0, false).stepped(-1);

@@ -5,7 +5,7 @@ use std::collections::VecDeque;
 
 use crate::differences::Points;
 use crate::figures::{MAX_FRAME, MAX_MS, MAX_US};
-use crate::gap_cases::{finish, observed};
+use crate::gap_cases::{finish, observe_asked, observed};
 use crate::metrics_call::Call as OnMetrics;
 use crate::metrics_state::Metrics;
 use crate::owd_cases::{ring_of, ring_with};
@@ -146,19 +146,32 @@ fn yes(bit: u64) -> String {
     if bit == 1 { "yes" } else { "no" }.into()
 }
 
-/// The tracker and the jitter of a frame, which refuse nothing: a full count saturates, a D is reduced.
+/// The tracker behind its questions and without them, and the jitter of a frame: without them a full count saturates, a D is reduced.
 fn bursts(points: &mut Points) {
     let full = Tracker {
         expected_next: Some(1),
         burst_count: u32::MAX,
         ..Tracker::default()
     };
+    let full_input = "2^32 − 1 bursts, none under way, counter 2 where 1 is expected";
+    let full_run = || format!("bursts: {}", observe(&full, 2).1.burst_count);
+    points.row("`GapTracker::observe`", full_input, full_run, || observe_asked(&full, 2));
     points.shown(
-        "`GapTracker::observe`",
-        "2^32 − 1 bursts, none under way, counter 2 where 1 is expected",
-        || format!("bursts: {}", observe(&full, 2).1.burst_count),
+        "`GapTracker::observe_unchecked`, the commit's `observe`",
+        full_input,
+        full_run,
         || observed(&full, 2).0,
         |numbers| format!("bursts: {}", numbers[5]),
+    );
+    let stray = Tracker {
+        current_burst_len: 1,
+        ..Tracker::default()
+    };
+    points.row(
+        "`GapTracker::observe`, `finish_burst`, `take_interval_stats`",
+        "a length of 1 outside a burst, counter 0",
+        || format!("length {}", observe(&stray, 0).1.current_burst_len),
+        || observe_asked(&stray, 0),
     );
     let long = Tracker {
         in_burst: true,
@@ -168,7 +181,7 @@ fn bursts(points: &mut Points) {
         ..Tracker::default()
     };
     points.shown(
-        "`GapTracker::finish_burst`, `take_interval_stats`",
+        "`GapTracker::finish_burst_unchecked`, `take_interval_stats_unchecked`, the commit's",
         "lengths 2^64 − 1 in all, a burst of 1",
         || format!("lengths {} in all", finish_burst(&long).total_burst_len),
         || finish(&long),
@@ -185,7 +198,7 @@ fn bursts(points: &mut Points) {
             ..receiver_access::Fields::default()
         };
         points.shown(
-            "`jitter_after`",
+            "`jitter_after_unchecked`",
             input,
             || {
                 let mut s = receiver_access::state(&fields, owd(2, VecDeque::new()));

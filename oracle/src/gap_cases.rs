@@ -1,7 +1,7 @@
-//! Calls 451 to 458: `GapTracker`.
+//! Calls 451 to 458 and 471 to 473: `GapTracker`.
 
 use crate::case::{commit, Case, Numbers};
-use crate::figures::{beside, maybe, optional};
+use crate::figures::{asked, beside, first_no, maybe, optional};
 use crate::proto::mmp::receiver::oracle_access::{finish_burst, new_tracker, observe, take_interval_stats, Tracker};
 use crate::rng::Rng;
 
@@ -92,6 +92,37 @@ fn stats(t: &Tracker) -> (Case, Tracker) {
     (on_tracker(453, t, &[], &numbers, outside), after)
 }
 
+/// Behind its questions: 1, and 10 of the bursts.
+pub fn observe_asked(t: &Tracker, counter: u64) -> Case {
+    let refusal = first_no(&[(1, tracker_keeps(t)), (10, room_for_burst(t, counter))]);
+    // Where the count is full, the commit panics.
+    assert!(refusal != 10 || commit(|| observe(t, counter)).is_none());
+    let refused = [&[0], &tracker_numbers(t)[..]].concat();
+    let answer = asked(refusal, &refused, || {
+        let (lost, after) = observe(t, counter);
+        [&[lost], &tracker_numbers(&after)[..]].concat()
+    });
+    Case::new(Numbers::of(&[471]).and(&tracker_numbers(t)).and(&[counter]), answer)
+}
+
+/// A call that asks 1 alone.
+fn by_rule(call: u64, t: &Tracker, zeros: usize, commit: impl FnOnce() -> Vec<u64>) -> Case {
+    let refused = [&vec![0; zeros], &tracker_numbers(t)[..]].concat();
+    let answer = asked(first_no(&[(1, tracker_keeps(t))]), &refused, commit);
+    Case::new(Numbers::of(&[call]).and(&tracker_numbers(t)), answer)
+}
+
+pub fn stats_asked(t: &Tracker) -> Case {
+    by_rule(472, t, 3, || {
+        let ((count, max, mean), after) = take_interval_stats(t);
+        [&[count.into(), max.into(), mean.into()], &tracker_numbers(&after)[..]].concat()
+    })
+}
+
+pub fn finish_asked(t: &Tracker) -> Case {
+    by_rule(473, t, 0, || tracker_numbers(&finish_burst(t)).to_vec())
+}
+
 fn keeps_rule(t: &Tracker) -> Case {
     on_tracker(455, t, &[], &[tracker_keeps(t).into()], true)
 }
@@ -103,9 +134,13 @@ fn begins(t: &Tracker, counter: u64) -> Case {
     on_tracker(456, t, &[counter], &[yes.into()], counted.is_none())
 }
 
+/// Whether the count can hold the burst that this frame begins, if it begins one.
+fn room_for_burst(t: &Tracker, counter: u64) -> bool {
+    !begins_burst(t, counter) || t.burst_count < u32::MAX
+}
+
 fn bursts_ok(t: &Tracker, counter: u64) -> Case {
-    let yes = !begins_burst(t, counter) || t.burst_count < u32::MAX;
-    on_tracker(457, t, &[counter], &[yes.into()], true)
+    on_tracker(457, t, &[counter], &[room_for_burst(t, counter).into()], true)
 }
 
 /// The mean that the commit takes of so many bursts, by floats.
@@ -119,11 +154,14 @@ fn mean_burst(total: u64, count: u32) -> Case {
     Case::new(Numbers::of(&[458, total, count.into()]), (Numbers::of(&[mean.into()]), false))
 }
 
-fn all(t: &Tracker, counter: u64) -> [Case; 6] {
+fn all(t: &Tracker, counter: u64) -> [Case; 9] {
     [
         observed(t, counter).0,
         stats(t).0,
         finish(t),
+        observe_asked(t, counter),
+        stats_asked(t),
+        finish_asked(t),
         keeps_rule(t),
         begins(t, counter),
         bursts_ok(t, counter),
@@ -231,6 +269,9 @@ pub fn random_case(rng: &mut Rng, call: u64) -> Case {
         455 => keeps_rule(&t),
         456 => begins(&t, counter),
         457 => bursts_ok(&t, counter),
+        471 => observe_asked(&t, counter),
+        472 => stats_asked(&t),
+        473 => finish_asked(&t),
         _ => mean_burst(about_whole_mean(rng, t.burst_count, t.total_burst_len), t.burst_count),
     }
 }

@@ -1,4 +1,4 @@
-//! Calls 331 to 336: `OwdTrendDetector`.
+//! Calls 331 to 338: `OwdTrendDetector`.
 
 use std::collections::VecDeque;
 
@@ -16,14 +16,20 @@ fn new(capacity: u64) -> Case {
 }
 
 /// The commit's window is empty after it, whatever it was.
+fn cleared(r: &Ring) -> Vec<u64> {
+    let mut c = owd(r.capacity, VecDeque::from(vec![(1, 2)]));
+    c.clear();
+    let (capacity, live) = owd_window(&c);
+    vec![capacity as u64, live.len() as u64, 0]
+}
+
 pub fn clear(r: &Ring) -> Case {
-    let answer = asked(first_no(&[(1, r.keeps())]), &r.state(), || {
-        let mut c = owd(r.capacity, VecDeque::from(vec![(1, 2)]));
-        c.clear();
-        let (capacity, live) = owd_window(&c);
-        vec![capacity as u64, live.len() as u64, 0]
-    });
+    let answer = asked(first_no(&[(1, r.keeps())]), &r.state(), || cleared(r));
     Case::new(Numbers::of(&[332]).and(&r.state()), answer)
+}
+
+fn clear_unchecked(r: &Ring) -> Case {
+    Case::new(Numbers::of(&[337]).and(&r.state()), (Numbers::of(&cleared(r)), false))
 }
 
 pub fn push(r: &Ring, at_ms: u32, owd_us: i64) -> Case {
@@ -31,6 +37,19 @@ pub fn push(r: &Ring, at_ms: u32, owd_us: i64) -> Case {
     let answer = asked(r.push_refusal(owd_us), &with_windows(r), || with_windows(&r.pushed(at_ms, owd_us)));
     let line = Numbers::of(&[333]).and(&r.state()).and(&[at_ms.into(), owd_us as u64]);
     Case::new(line.and(&r.windows()), answer)
+}
+
+/// The commit's where the ring keeps its rule and has its windows; else one slot is set, if it is there, and one pair more is counted.
+fn push_unchecked(r: &Ring, at_ms: u32, owd_us: i64) -> Case {
+    let outside = !(r.keeps() && r.windows_ok());
+    let after = if outside {
+        r.clone().placed((at_ms, owd_us))
+    } else {
+        r.pushed(at_ms, owd_us)
+    };
+    let line = Numbers::of(&[338]).and(&r.state()).and(&[at_ms.into(), owd_us as u64]);
+    let answer = Numbers::of(&after.state()).and(&after.windows());
+    Case::new(line.and(&r.windows()), (answer, outside))
 }
 
 pub fn trend(r: &Ring) -> Case {
@@ -190,6 +209,7 @@ pub fn boundary_cases(rng: &mut Rng) -> Vec<Case> {
     let mut cases = Vec::from([0, 1, 2, 3, 32, 4095, 4096, 4097, 1 << 32, u64::MAX].map(new));
     for r in lawless() {
         cases.extend([push(&r, 1, 1), trend(&r), clear(&r), keeps_rule(&r), push(&r, 1, MAX_US + 1)]);
+        cases.extend([push_unchecked(&r, 1, 1), clear_unchecked(&r)]);
     }
     for capacity in [2, 3, 32] {
         for count in [0, 1, 2, capacity / 2, capacity - 1, capacity] {
@@ -201,9 +221,10 @@ pub fn boundary_cases(rng: &mut Rng) -> Vec<Case> {
                     let r = ring(rng, capacity, count, first, &run);
                     cases.push(trend(&r));
                     if capacity < 32 || count >= 31 {
-                        cases.push(push(&r, rng.number(4) as u32, wide_delay(rng)));
+                        let (at_ms, owd_us) = (rng.number(4) as u32, wide_delay(rng));
+                        cases.extend([push(&r, at_ms, owd_us), push_unchecked(&r, at_ms, owd_us)]);
                     }
-                    cases.extend([clear(&r), keeps_rule(&r)]);
+                    cases.extend([clear(&r), keeps_rule(&r), clear_unchecked(&r)]);
                 }
             }
         }
@@ -242,7 +263,7 @@ fn about_samples(rng: &mut Rng) -> Vec<Case> {
         let mut one = r.clone();
         one.times.resize(times, 1);
         one.delays.resize(delays, 1);
-        cases.extend([trend(&one), push(&one, 9, 9), push(&one, 9, MAX_US + 1)]);
+        cases.extend([trend(&one), push(&one, 9, 9), push(&one, 9, MAX_US + 1), push_unchecked(&one, 9, 9)]);
     }
     for (early, late) in [
         (-MAX_US, MAX_US),
@@ -307,12 +328,14 @@ pub fn random_case(rng: &mut Rng, call: u64) -> Case {
             new(if rng.below(2) == 0 { beside(rng, end) } else { rng.number(8) })
         }
         332 => clear(&r),
-        333 => {
+        333 | 338 => {
             let d = if rng.below(4) == 0 { near(rng, MAX_US) } else { wide_delay(rng) };
-            push(&r, rng.number(4) as u32, d)
+            let pushed = if call == 333 { push } else { push_unchecked };
+            pushed(&r, rng.number(4) as u32, d)
         }
         334 => trend(&r),
         335 => keeps_rule(&r),
+        337 => clear_unchecked(&r),
         _ => {
             let length = |rng: &mut Rng| match rng.below(4) {
                 0 => beside(rng, r.capacity as u64),

@@ -16,7 +16,7 @@ pub struct Ring {
     pub delays: Vec<i64>,
 }
 
-fn delay_ok(us: i64) -> bool {
+pub fn delay_ok(us: i64) -> bool {
     (-MAX_US..=MAX_US).contains(&us)
 }
 
@@ -51,15 +51,29 @@ impl Ring {
         owd(self.capacity, self.live())
     }
 
-    /// The ring with a pair more: one slot written, the oldest's where it was full.
+    /// The slot n after the first: the slots up to the ring's end come first, then those from slot 0 on.
+    fn onward(&self, n: usize) -> usize {
+        let left = self.capacity.saturating_sub(self.first);
+        if n < left {
+            self.first + n
+        } else {
+            n - left
+        }
+    }
+
+    /// The ring with a pair more: one slot written where it is there, the oldest's where it was full.
     pub fn placed(mut self, (at_ms, owd_us): (u32, i64)) -> Ring {
-        let slot = (self.first + self.count) % self.capacity;
-        self.times[slot] = at_ms;
-        self.delays[slot] = owd_us;
+        let slot = self.onward(self.count);
+        if let Some(time) = self.times.get_mut(slot) {
+            *time = at_ms;
+        }
+        if let Some(delay) = self.delays.get_mut(slot) {
+            *delay = owd_us;
+        }
         if self.count < self.capacity {
             self.count += 1;
         } else {
-            self.first = (self.first + 1) % self.capacity;
+            self.first = self.onward(1);
         }
         self
     }

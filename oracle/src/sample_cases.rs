@@ -1,11 +1,11 @@
-//! Calls 461 to 466: the sampling half of a frame. The commit has it in one piece, so each part is seen in what a frame leaves behind.
+//! Calls 461 to 467: the sampling half of a frame. The commit has it in one piece, so each part is seen in what a frame leaves behind.
 
 use std::collections::VecDeque;
 
 use crate::case::{commit, Case, Numbers};
-use crate::figures::{about_last_clock, beside, clock, first_no, maybe, near, optional, CLOCKS, MAX_MS};
-use crate::owd_cases::{any_ring, lawless, spoilt};
-use crate::owd_ring::Ring;
+use crate::figures::{about_last_clock, asked, beside, clock, first_no, maybe, near, optional, CLOCKS, MAX_MS};
+use crate::owd_cases::{any_ring, lawless, ring_of, spoilt};
+use crate::owd_ring::{delay_ok, Ring};
 use crate::proto::mmp::algorithms::oracle_access::owd;
 use crate::proto::mmp::receiver::oracle_access::{fields, sample, sample_owd, state, window, Fields};
 use crate::receiver_state::{reference, MAX_JITTER, SPAN_MS};
@@ -87,32 +87,73 @@ fn echo_of(last_recv_ms: Option<u64>, timestamp: u32, now_ms: u64) -> Case {
     Case::new(line, (answer, false))
 }
 
-/// A sample pushed to a window. Where the window does not keep its rule it stays as it is; where its buffers don't fit it, it is cleared at most.
-fn sample_into(r: &Ring, owd_ref: Option<(u64, u32)>, timestamp: u32, now_ms: u64) -> Case {
-    let restarts = owd_ref.is_some_and(|(recv_ms, _)| now_ms.saturating_sub(recv_ms) >= SPAN_MS);
-    let refusal = first_no(&[(1, r.keeps()), (4, r.windows_ok())]);
-    let mut after = r.clone();
-    if restarts && r.keeps() {
-        (after.count, after.first) = (0, 0);
+/// A lawful window with its buffers after a sample of the commit, and the reference after it.
+fn sampled_by_commit(r: &Ring, owd_ref: Option<(u64, u32)>, timestamp: u32, now_ms: u64) -> (Ring, Option<(u64, u32)>) {
+    let f = Fields {
+        owd_ref,
+        ..Fields::default()
+    };
+    let mut s = state(&f, r.commit());
+    sample_owd(&mut s, timestamp, now_ms);
+    let (capacity, pairs) = window(&s);
+    let after = windowed(r, owd_ref, now_ms).placed(*pairs.back().expect("a sample was pushed"));
+    assert!(
+        (capacity, pairs) == (after.capacity, after.live()),
+        "the commit's window is the ring's"
+    );
+    (after, fields(&s).owd_ref)
+}
+
+/// The window that a sample is pushed to: cleared where the reference restarts.
+fn windowed(r: &Ring, owd_ref: Option<(u64, u32)>, now_ms: u64) -> Ring {
+    let mut window = r.clone();
+    if owd_ref.is_some_and(|(recv_ms, _)| now_ms.saturating_sub(recv_ms) >= SPAN_MS) {
+        (window.count, window.first) = (0, 0);
     }
-    if refusal == 0 {
-        let f = Fields {
-            owd_ref,
-            ..Fields::default()
-        };
-        let mut s = state(&f, r.commit());
-        sample_owd(&mut s, timestamp, now_ms);
-        let (capacity, pairs) = window(&s);
-        after = after.placed(*pairs.back().expect("a sample was pushed"));
-        assert!(
-            (capacity, pairs) == (after.capacity, after.live()),
-            "the commit's window is the ring's"
-        );
-    }
-    let line = Numbers::of(&[466]).and(&r.state()).and(&reference(owd_ref));
-    let line = line.and(&[timestamp.into(), now_ms]).and(&r.windows());
+    window
+}
+
+/// The pair of a sample, as the commit pushes it to an empty window.
+fn pair_of(owd_ref: Option<(u64, u32)>, timestamp: u32, now_ms: u64) -> (u32, i64) {
+    let (after, _) = sampled_by_commit(&ring_of(2), owd_ref, timestamp, now_ms);
+    (after.times[0], after.delays[0])
+}
+
+fn on_window(call: u64, r: &Ring, owd_ref: Option<(u64, u32)>, timestamp: u32, now_ms: u64) -> Numbers {
+    let line = Numbers::of(&[call]).and(&r.state()).and(&reference(owd_ref));
+    line.and(&[timestamp.into(), now_ms]).and(&r.windows())
+}
+
+/// A sample pushed to a window, the commit's where that keeps its rule and has its buffers; else the sample's pair is placed as `push_unchecked` places it.
+fn sample_unchecked(r: &Ring, owd_ref: Option<(u64, u32)>, timestamp: u32, now_ms: u64) -> Case {
+    let outside = !(r.keeps() && r.windows_ok());
+    let after = if outside {
+        windowed(r, owd_ref, now_ms).placed(pair_of(owd_ref, timestamp, now_ms))
+    } else {
+        sampled_by_commit(r, owd_ref, timestamp, now_ms).0
+    };
     let answer = Numbers::of(&after.state()).and(&after.windows());
-    Case::new(line, (answer, refusal > 0))
+    Case::new(on_window(466, r, owd_ref, timestamp, now_ms), (answer, outside))
+}
+
+/// The same behind its questions: 1 of the window and the reference, 2, 4, and 5, which no sample is refused by.
+fn sample_asked(r: &Ring, owd_ref: Option<(u64, u32)>, timestamp: u32, now_ms: u64) -> Case {
+    let rule = r.keeps() && owd_ref.is_none_or(|(recv_ms, _)| recv_ms <= MAX_MS);
+    let (_, owd_us) = pair_of(owd_ref, timestamp, now_ms);
+    let refusal = first_no(&[(1, rule), (2, now_ms <= MAX_MS), (4, r.windows_ok()), (5, delay_ok(owd_us))]);
+    let whole = |ring: &Ring, owd_ref| [&ring.state(), &reference(owd_ref)[..], &ring.windows()].concat();
+    let answer = asked(refusal, &whole(r, owd_ref), || {
+        let (after, owd_ref) = sampled_by_commit(r, owd_ref, timestamp, now_ms);
+        whole(&after, owd_ref)
+    });
+    Case::new(on_window(467, r, owd_ref, timestamp, now_ms), answer)
+}
+
+fn sample_into(r: &Ring, owd_ref: Option<(u64, u32)>, timestamp: u32, now_ms: u64) -> [Case; 2] {
+    [
+        sample_unchecked(r, owd_ref, timestamp, now_ms),
+        sample_asked(r, owd_ref, timestamp, now_ms),
+    ]
 }
 
 /// Timestamps at the ends of the word and of its sign.
@@ -135,8 +176,8 @@ pub fn boundary_cases(rng: &mut Rng) -> Vec<Case> {
         for last in STAMPS {
             cases.push(jitter_after(16, Some(1000), last, timestamp, 1500));
             for r in [any_ring(rng), any_ring(rng)] {
-                cases.push(sample_into(&r, Some((1000, last)), timestamp, 1500));
-                cases.push(sample_into(&r, Some((1000, last)), timestamp, 1000 + SPAN_MS - 1));
+                cases.extend(sample_into(&r, Some((1000, last)), timestamp, 1500));
+                cases.extend(sample_into(&r, Some((1000, last)), timestamp, 1000 + SPAN_MS - 1));
             }
         }
     }
@@ -149,8 +190,11 @@ pub fn boundary_cases(rng: &mut Rng) -> Vec<Case> {
     let mut long = any_ring(rng);
     long.delays.push(1);
     for r in lawless().into_iter().chain([short, long, any_ring(rng)]) {
-        cases.extend([0, SPAN_MS].map(|now_ms| sample_into(&r, Some((0, 0)), 1, now_ms)));
-        cases.push(sample_into(&r, None, 1, 7));
+        for now_ms in [0, SPAN_MS, MAX_MS, MAX_MS + 1] {
+            cases.extend(sample_into(&r, Some((0, 0)), 1, now_ms));
+        }
+        cases.extend(sample_into(&r, None, 1, 7));
+        cases.extend([MAX_MS, MAX_MS + 1].map(|recv_ms| sample_asked(&r, Some((recv_ms, 0)), 1, 7)));
     }
     cases
 }
@@ -181,7 +225,8 @@ pub fn random_case(rng: &mut Rng, call: u64) -> Case {
         465 => echo_of(at, timestamp, now_ms),
         _ => {
             let ring = if rng.below(8) == 0 { spoilt(rng) } else { any_ring(rng) };
-            sample_into(&ring, owd_ref, timestamp, now_ms)
+            let into = if call == 466 { sample_unchecked } else { sample_asked };
+            into(&ring, owd_ref, timestamp, now_ms)
         }
     }
 }

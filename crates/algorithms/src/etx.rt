@@ -9,7 +9,7 @@ use refusals::ranges::ratio_ok;
 use refusals::ranges::rtt_ms_ok;
 
 // ETX from the delivery ratios of both directions, with no question asked.
-pub fn etx_of(d_forward: f64, d_reverse: f64) -> f64
+pub fn compute_etx_unchecked(d_forward: f64, d_reverse: f64) -> f64
     ensures { λ r. ⌜ r ≡ etxOf «d_forward» «d_reverse» ⌝ }
 {
     let product = d_forward * d_reverse;
@@ -26,11 +26,11 @@ pub fn compute_etx(d_forward: f64, d_reverse: f64) -> AnswerF64
     let mut q = Questions::all_yes();
     q.values = ratio_ok(d_forward) & ratio_ok(d_reverse);
     let refusal = q.first_no();
-    AnswerF64::of(refusal, etx_of(d_forward, d_reverse))
+    AnswerF64::of(refusal, compute_etx_unchecked(d_forward, d_reverse))
 }
 
 // etx × (1 + rtt_ms / 100), with no question asked.
-pub fn quality_of(etx: f64, rtt_ms: f64) -> f64
+pub fn quality_index_unchecked(etx: f64, rtt_ms: f64) -> f64
     ensures { λ r. ⌜ r ≡ qualityOf etx «rtt_ms» ⌝ }
 {
     etx * (1.0 + rtt_ms / 100.0)
@@ -43,5 +43,5 @@ pub fn quality_index(etx: f64, rtt_ms: f64) -> AnswerF64
     let mut q = Questions::all_yes();
     q.values = etx_ok(etx) & rtt_ms_ok(rtt_ms);
     let refusal = q.first_no();
-    AnswerF64::of(refusal, quality_of(etx, rtt_ms))
+    AnswerF64::of(refusal, quality_index_unchecked(etx, rtt_ms))
 }

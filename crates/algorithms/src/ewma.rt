@@ -56,7 +56,7 @@ impl DualEwma {
     }
 
     // The step alone, for a caller that has asked its questions.
-    pub fn step(self, sample: f64) -> DualEwma
+    pub fn update_unchecked(self, sample: f64) -> DualEwma
         ensures { λ r. ⌜ r ≡ stepped self sample ⌝ }
     {
         if self.initialized {
@@ -82,7 +82,7 @@ impl DualEwma {
         q.values = trend_ok(sample);
         let refusal = q.first_no();
         if refusal == 0 {
-            let state = self.step(sample);
+            let state = self.update_unchecked(sample);
             EwmaUpdate { refusal, state }
         } else {
             EwmaUpdate {

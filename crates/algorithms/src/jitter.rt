@@ -60,7 +60,7 @@ impl JitterEstimator {
     }
 
     // The step alone, for a caller that has asked its questions.
-    pub fn step(self, transit_delta: i32) -> JitterEstimator
+    pub fn update_unchecked(self, transit_delta: i32) -> JitterEstimator
         ensures { λ r. ⌜ r ≡ stepped self «transit_delta» ⌝ }
     {
         let scaled = unsigned(self.jitter_q4);
@@ -76,7 +76,7 @@ impl JitterEstimator {
     {
         let refusal = self.refusal();
         if refusal == 0 {
-            let state = self.step(transit_delta);
+            let state = self.update_unchecked(transit_delta);
             JitterUpdate { refusal, state }
         } else {
             JitterUpdate {

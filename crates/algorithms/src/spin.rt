@@ -150,7 +150,7 @@ impl SpinBitState {
     }
 
     // The frame alone, for a caller that has asked its questions.
-    pub fn observe(self, received_bit: bool, counter: u64, now_ms: u64) -> SpinObserved
+    pub fn rx_observe_unchecked(self, received_bit: bool, counter: u64, now_ms: u64) -> SpinObserved
         ensures { λ r. ⌜ r ≡ observed self «received_bit» counter «now_ms» ⌝ }
     {
         if self.is_initiator {
@@ -169,7 +169,7 @@ impl SpinBitState {
         q.clocks = clock_ok(now_ms);
         let refusal = q.first_no();
         if refusal == 0 {
-            self.observe(received_bit, counter, now_ms)
+            self.rx_observe_unchecked(received_bit, counter, now_ms)
         } else {
             let rtt_ms = OptionU64::None;
             SpinObserved {

@@ -59,7 +59,7 @@ impl SrttEstimator {
     }
 
     // The step alone, for a caller that has asked its questions.
-    pub fn step(self, rtt_us: i64) -> SrttEstimator
+    pub fn update_unchecked(self, rtt_us: i64) -> SrttEstimator
         ensures { λ r. ⌜ r ≡ stepped self «rtt_us» ⌝ }
     {
         let rtt = unsigned(rtt_us);
@@ -91,7 +91,7 @@ impl SrttEstimator {
         q.round_trip = round_trip_ok(rtt_us);
         let refusal = q.first_no();
         if refusal == 0 {
-            let state = self.step(rtt_us);
+            let state = self.update_unchecked(rtt_us);
             SrttUpdate { refusal, state }
         } else {
             SrttUpdate {

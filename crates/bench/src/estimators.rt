@@ -84,8 +84,8 @@ fn jitter(s: &[u64], x: u64) -> u64 {
     bits64(after.jitter_q4)
 }
 
-fn jitter_step(s: &[u64], x: u64) -> u64 {
-    let after = jitter_of(s, x).step(signed32(u32_of(x)));
+fn jitter_unchecked(s: &[u64], x: u64) -> u64 {
+    let after = jitter_of(s, x).update_unchecked(signed32(u32_of(x)));
     bits64(after.jitter_q4)
 }
 
@@ -103,8 +103,8 @@ fn srtt(s: &[u64], x: u64) -> u64 {
     bits64(after.srtt_us) ^ bits64(after.rttvar_us)
 }
 
-fn srtt_step(s: &[u64], x: u64) -> u64 {
-    let after = srtt_of(s, x).step(signed(number(s, x, 24)));
+fn srtt_unchecked(s: &[u64], x: u64) -> u64 {
+    let after = srtt_of(s, x).update_unchecked(signed(number(s, x, 24)));
     bits64(after.srtt_us) ^ bits64(after.rttvar_us)
 }
 
@@ -122,8 +122,8 @@ fn ewma(s: &[u64], x: u64) -> u64 {
     flag(after.short < after.long)
 }
 
-fn ewma_step(s: &[u64], x: u64) -> u64 {
-    let after = ewma_of(s, x).step(float(s, x, 24));
+fn ewma_unchecked(s: &[u64], x: u64) -> u64 {
+    let after = ewma_of(s, x).update_unchecked(float(s, x, 24));
     flag(after.short < after.long)
 }
 
@@ -136,8 +136,8 @@ fn compute_etx(s: &[u64], x: u64) -> u64 {
     flag(a.value < 2.0)
 }
 
-fn etx_of(s: &[u64], x: u64) -> u64 {
-    flag(etx::etx_of(ratio(s, x, 8), ratio(s, x, 16)) < 2.0)
+fn compute_etx_unchecked(s: &[u64], x: u64) -> u64 {
+    flag(etx::compute_etx_unchecked(ratio(s, x, 8), ratio(s, x, 16)) < 2.0)
 }
 
 fn since(n: OptionU64) -> u64 {
@@ -167,8 +167,8 @@ fn rx_observe(s: &[u64], x: u64) -> u64 {
     observed(spin_of(s, x).rx_observe(bit(x, 3), number(s, x, 32), number(s, x, 24)))
 }
 
-fn observe(s: &[u64], x: u64) -> u64 {
-    observed(spin_of(s, x).observe(bit(x, 3), number(s, x, 32), number(s, x, 24)))
+fn rx_observe_unchecked(s: &[u64], x: u64) -> u64 {
+    observed(spin_of(s, x).rx_observe_unchecked(bit(x, 3), number(s, x, 32), number(s, x, 24)))
 }
 
 // The trend of a full window whose oldest pair stands a third from its start.
@@ -186,16 +186,16 @@ fn trend(times: &[u32], delays: &[i64]) -> u64 {
 fn called(call: u64, x: u64, numbers: &[u64], times: &[u32], delays: &[i64]) -> u64 {
     match call {
         303 => jitter(numbers, x),
-        306 => jitter_step(numbers, x),
+        306 => jitter_unchecked(numbers, x),
         313 => srtt(numbers, x),
-        318 => srtt_step(numbers, x),
+        318 => srtt_unchecked(numbers, x),
         323 => ewma(numbers, x),
-        328 => ewma_step(numbers, x),
+        328 => ewma_unchecked(numbers, x),
         334 | 1334 => trend(times, delays),
         341 => compute_etx(numbers, x),
-        343 => etx_of(numbers, x),
+        343 => compute_etx_unchecked(numbers, x),
         355 => rx_observe(numbers, x),
-        357 => observe(numbers, x),
+        357 => rx_observe_unchecked(numbers, x),
         _ => number(numbers, x, 8),
     }
 }

@@ -1,5 +1,0 @@
--- The figures stay in their ranges through rounding. Assumes nothing.
-pub mod RatiosInRange
-pub mod GoodputInRange
-pub mod TripsInRange
-pub mod SmoothedInRange

@@ -83,7 +83,7 @@ pub fn round_trip(rr: ReceiverReport, our_timestamp_ms: u32) -> RoundTrip
 }
 
 // The smoothed round trip in milliseconds, whether or not one has begun it.
-pub fn smoothed_ms(srtt: SrttEstimator) -> f64
+pub fn smoothed_ms_unchecked(srtt: SrttEstimator) -> f64
     ensures { λ r. ⌜ r ≡ millisecondsOf (srtt .«srtt_us») ⌝ }
 {
     floats::nearest_i64_to_f64(srtt.srtt_us) / 1000.0
@@ -106,7 +106,7 @@ pub fn tallies_ok(reports_seen: u64, samples: u64, zeros: u64, failures: u64) ->
 // --- Delivery ---
 
 // The packets that came of those that were sent, from 0 to 1.
-pub fn delivery_ratio(packets: u64, span: u64) -> f64
+pub fn delivery_ratio_unchecked(packets: u64, span: u64) -> f64
     ensures { λ r. ⌜ r ≡ deliveryRatio packets span ⌝ }
 {
     floats::clamp(floats::quotient(packets, span), 0.0, 1.0)
@@ -146,7 +146,7 @@ fn goodput_over(goodput: f64, bytes: u64, ms: u64) -> f64
 }
 
 // The goodput after a report. Without the time of the one before it stays; a clock that fell counts as no time.
-pub fn goodput_after(goodput: f64, bytes: u64, prev_ms: OptionU64, now_ms: u64) -> f64
+pub fn goodput_after_unchecked(goodput: f64, bytes: u64, prev_ms: OptionU64, now_ms: u64) -> f64
     ensures { λ r. ⌜ r ≡ goodputAfter goodput bytes «prev_ms» «now_ms» ⌝ }
 {
     match prev_ms {

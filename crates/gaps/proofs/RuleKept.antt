@@ -68,6 +68,9 @@ closed-kept t k f = go (t .«in_burst») refl
         record { outside = λ z. refl; inside = λ z. absurd (true≢false (sym z)); total = omega (arith, l, n, f, finished-inside t e) }
     go false e = k
 
+pub closed-keeps-rule : (t : GapTracker) → keepsRule t ≡ true → Fits t → keepsRule (closed t) ≡ true
+closed-keeps-rule t h f = keeps (closed t) (closed-kept t (kept t h) f)
+
 pub closed-outside : (t : GapTracker) → closed t .«in_burst» ≡ false
 unfolding closed
 closed-outside t = go (t .«in_burst») refl

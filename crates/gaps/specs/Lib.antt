@@ -1,3 +1,4 @@
 -- The definitions that the contracts of `gaps` cite.
 pub mod Gaps
 pub mod Stats
+pub mod Checked

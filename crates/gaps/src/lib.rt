@@ -1,4 +1,6 @@
-// receiver.rs, Gap Tracker: gaps in the counters of the frames that come, as bursts of lost frames.
+// receiver.rs, Gap Tracker: gaps in the counters of the frames that come, as bursts of lost frames. `_unchecked` is for a record that has asked the questions.
+
+pub mod checked; // checked.rt: the calls behind their questions
 
 ghost use mathlib.Core.Path.{_≡_};
 ghost use Prim.Native.Nat.{_+_, _%_, min, max};
@@ -175,7 +177,7 @@ impl GapTracker {
     }
 
     // Finish the current burst and record its stats.
-    pub fn finish_burst(self) -> GapTracker
+    pub fn finish_burst_unchecked(self) -> GapTracker
         ensures { λ r. ⌜ r ≡ closed self ⌝ }
     {
         if self.in_burst {
@@ -211,14 +213,14 @@ impl GapTracker {
         ensures { λ r. ⌜ r ≡ moved self gap ⌝ }
     {
         if gap == 0 {
-            self.finish_burst()
+            self.finish_burst_unchecked()
         } else {
             self.missed(gap)
         }
     }
 
     // Process a received counter value. The first frame only says which counter is due next.
-    pub fn observe(self, counter: u64) -> Observed
+    pub fn observe_unchecked(self, counter: u64) -> Observed
         ensures { λ r. ⌜ r ≡ observed self counter ⌝ }
     {
         let expected_next = self.expected_next;
@@ -237,10 +239,10 @@ impl GapTracker {
     }
 
     // Get interval stats and reset for next interval. An open burst ends.
-    pub fn take_interval_stats(self) -> IntervalStats
+    pub fn take_interval_stats_unchecked(self) -> IntervalStats
         ensures { λ r. ⌜ r ≡ statsOf self ⌝ }
     {
-        let ended = self.finish_burst();
+        let ended = self.finish_burst_unchecked();
         let count = ended.burst_count;
         let max = ended.max_burst_len;
         let mean = mean_burst(ended.total_burst_len, count);

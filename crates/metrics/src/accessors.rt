@@ -5,8 +5,8 @@ ghost use Rattle.metrics.specs.Accessors.{srttMsOf, lossRateOf, smoothed
 use crate::AnswerCounters;
 use crate::MmpMetrics;
 use crate::RrCounters;
-use algorithms::etx::quality_of;
-use figures::smoothed_ms;
+use algorithms::etx::quality_index_unchecked;
+use figures::smoothed_ms_unchecked;
 use floats::one_minus;
 use refusals::answer::AnswerF64;
 use refusals::answer::AnswerOptionF64;
@@ -20,7 +20,7 @@ impl MmpMetrics {
     pub fn srtt_ms(self) -> AnswerOptionF64
         ensures { λ r. ⌜ r ≡ srttMsOf self ⌝ }
     {
-        let srtt_ms = then_some(self.srtt.initialized, smoothed_ms(self.srtt));
+        let srtt_ms = then_some(self.srtt.initialized, smoothed_ms_unchecked(self.srtt));
         AnswerOptionF64::of(self.refusal(), srtt_ms)
     }
 
@@ -43,7 +43,10 @@ impl MmpMetrics {
     pub fn quality_index(self) -> AnswerOptionF64
         ensures { λ r. ⌜ r ≡ qualityIndexOf self ⌝ }
     {
-        let quality = quality_of(self.etx_trend.long, smoothed_ms(self.srtt));
+        let quality = quality_index_unchecked(
+            self.etx_trend.long,
+            smoothed_ms_unchecked(self.srtt),
+        );
         let measured = self.srtt.initialized & self.etx_trend.initialized;
         AnswerOptionF64::of(self.refusal(), then_some(measured, quality))
     }

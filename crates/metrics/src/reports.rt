@@ -7,11 +7,11 @@ ghost use Rattle.metrics.specs.Fields.{withTallies};
 ghost use Rattle.metrics.specs.Reports.{Room, sampled, tripTaken, tripLog, delivered, carried, jittered, kept, measured};
 use crate::MmpMetrics;
 use crate::RrLog;
-use algorithms::etx::etx_of;
+use algorithms::etx::compute_etx_unchecked;
 use figures::RoundTrip;
-use figures::delivery_ratio;
-use figures::goodput_after;
-use figures::smoothed_ms;
+use figures::delivery_ratio_unchecked;
+use figures::goodput_after_unchecked;
+use figures::smoothed_ms_unchecked;
 use floats::one_minus;
 use numbers::saturating_sub;
 use refusals::option::OptionU32;
@@ -38,8 +38,9 @@ impl MmpMetrics {
         ensures { λ r. ⌜ r ≡ sampled self ms ⌝ }
     {
         let us = 1000 * ms as u64;
-        let srtt = self.srtt.step(us as i64);
-        let rtt_trend = self.rtt_trend.step(floats::nearest_u64_to_f64(us));
+        let srtt = self.srtt.update_unchecked(us as i64);
+        let rtt_trend = self.rtt_trend
+            .update_unchecked(floats::nearest_u64_to_f64(us));
         let loss_trend = self.loss_trend;
         let goodput_trend = self.goodput_trend;
         let jitter_trend = self.jitter_trend;
@@ -98,7 +99,7 @@ impl MmpMetrics {
     {
         match trip {
             RoundTrip::NoEcho => RrLog::None,
-            RoundTrip::Sample(ms) => RrLog::RttSample(ms, smoothed_ms(self.srtt)),
+            RoundTrip::Sample(ms) => RrLog::RttSample(ms, smoothed_ms_unchecked(self.srtt)),
             RoundTrip::Zero => RrLog::InvalidRtt,
             RoundTrip::ArithFail => RrLog::InvalidRtt,
         }
@@ -112,10 +113,10 @@ impl MmpMetrics {
         let counter_span = saturating_sub(rr.highest_counter, self.prev_rr_highest_counter);
         let packets_delta = saturating_sub(rr.cumulative_packets_recv, self.prev_rr_cum_packets);
         if self.has_prev_rr & (0 < counter_span) {
-            let ratio = delivery_ratio(packets_delta, counter_span);
-            let loss_trend = self.loss_trend.step(one_minus(ratio));
-            let etx = etx_of(ratio, self.delivery_ratio_reverse);
-            let etx_trend = self.etx_trend.step(etx);
+            let ratio = delivery_ratio_unchecked(packets_delta, counter_span);
+            let loss_trend = self.loss_trend.update_unchecked(one_minus(ratio));
+            let etx = compute_etx_unchecked(ratio, self.delivery_ratio_reverse);
+            let etx_trend = self.etx_trend.update_unchecked(etx);
             let mut state = self;
             state.loss_trend = loss_trend;
             state.etx_trend = etx_trend;
@@ -135,9 +136,14 @@ impl MmpMetrics {
         if self.has_prev_rr {
             let bytes_delta = saturating_sub(rr.cumulative_bytes_recv, self.prev_rr_cum_bytes);
             let goodput_trend = self.goodput_trend
-                .step(floats::nearest_u64_to_f64(bytes_delta));
+                .update_unchecked(floats::nearest_u64_to_f64(bytes_delta));
             let prev_rr_ms = self.prev_rr_ms;
-            let goodput_bps = goodput_after(self.goodput_bps, bytes_delta, prev_rr_ms, now_ms);
+            let goodput_bps = goodput_after_unchecked(
+                self.goodput_bps,
+                bytes_delta,
+                prev_rr_ms,
+                now_ms,
+            );
             let mut state = self;
             state.goodput_trend = goodput_trend;
             state.goodput_bps = goodput_bps;
@@ -153,7 +159,7 @@ impl MmpMetrics {
         ensures { λ r. ⌜ r ≡ jittered self rr ⌝ }
     {
         let jitter_trend = self.jitter_trend
-            .step(floats::nearest_u64_to_f64(rr.jitter as u64));
+            .update_unchecked(floats::nearest_u64_to_f64(rr.jitter as u64));
         let mut state = self;
         state.jitter_trend = jitter_trend;
         state

@@ -4,8 +4,8 @@ ghost use mathlib.Core.Path.{_≡_};
 ghost use Rattle.metrics.specs.Updates.{rekeyed, rekeyOf, reverseMoved, reversed, reverseOf};
 use crate::MetricsUpdate;
 use crate::MmpMetrics;
-use algorithms::etx::etx_of;
-use figures::delivery_ratio;
+use algorithms::etx::compute_etx_unchecked;
+use figures::delivery_ratio_unchecked;
 use numbers::saturating_sub;
 use refusals::option::OptionU64;
 
@@ -74,8 +74,8 @@ impl MmpMetrics {
         let counter_span = saturating_sub(highest, self.prev_reverse_highest);
         let packets_delta = saturating_sub(packets, self.prev_reverse_packets);
         if self.has_prev_reverse & (0 < counter_span) {
-            let ratio = delivery_ratio(packets_delta, counter_span);
-            let etx = etx_of(self.delivery_ratio_forward, ratio);
+            let ratio = delivery_ratio_unchecked(packets_delta, counter_span);
+            let etx = compute_etx_unchecked(self.delivery_ratio_forward, ratio);
             let mut state = self;
             state.delivery_ratio_reverse = ratio;
             state.etx = etx;

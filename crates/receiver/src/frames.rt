@@ -55,7 +55,7 @@ impl ReceiverState {
         ensures { λ r. ⌜ r ≡ counted self counter bytes «ce_flag» ⌝ }
     {
         let reorders = reorders_after(self.cumulative_reorder_count, self.highest_counter, counter);
-        let seen = self.gap_tracker.observe(counter);
+        let seen = self.gap_tracker.observe_unchecked(counter);
         let gap_tracker = seen.tracker;
         let mut state = self;
         state.interval_has_data = true;

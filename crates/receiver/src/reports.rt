@@ -106,7 +106,7 @@ impl ReceiverState {
         ensures { λ r. ⌜ r ≡ built self «owd_trend» «now_ms» ⌝ }
     {
         if self.interval_has_data {
-            let stats = self.gap_tracker.take_interval_stats();
+            let stats = self.gap_tracker.take_interval_stats_unchecked();
             let report = self.report(stats, owd_trend, now_ms);
             let gap_tracker = stats.tracker;
             let state = self.reported(gap_tracker, now_ms);

@@ -37,7 +37,7 @@ pub fn answer(given: &[u64], answer: &mut [u64]) -> usize {
 fn called(given: &[u64], last: usize, answer: &mut [u64]) -> usize {
     match u64_of(given, 0) {
         101..=207 => with_bytes(given, last, answer),
-        333 | 334 | 466 | 504 | 505 | 507 => window_calls::answer(given, answer),
+        333 | 334 | 338 | 466 | 467 | 504 | 505 | 507 => window_calls::answer(given, answer),
         _ => reply_of(given).push(answer),
     }
 }
@@ -48,11 +48,11 @@ fn reply_of(given: &[u64]) -> Reply {
         301..=306 => jitter_calls::answer(given),
         311..=318 => srtt_calls::answer(given),
         321..=328 => ewma_calls::answer(given),
-        331..=336 => owd_calls::answer(given),
+        331..=337 => owd_calls::answer(given),
         341..=344 => etx_calls::answer(given),
         351..=357 => spin_calls::answer(given),
         401..=417 => sender_calls::answer(given),
-        451..=458 => gap_calls::answer(given),
+        451..=458 | 471..=473 => gap_calls::answer(given),
         461..=465 => sample_calls::answer(given),
         501..=518 => receiver_calls::answer(given),
         601..=619 => metrics_calls::answer(given),

@@ -13,7 +13,7 @@ pub fn answer(given: &[u64]) -> Reply {
     match u64_of(given, 0) {
         341 => of_f64(etx::compute_etx(a, b)),
         342 => of_f64(etx::quality_index(a, b)),
-        343 => one(float_pattern(etx::etx_of(a, b))),
-        _ => one(float_pattern(etx::quality_of(a, b))),
+        343 => one(float_pattern(etx::compute_etx_unchecked(a, b))),
+        _ => one(float_pattern(etx::quality_index_unchecked(a, b))),
     }
 }

@@ -22,7 +22,7 @@ pub fn answer(given: &[u64]) -> Reply {
         325 => of_f64(s.long()),
         326 => of_bool(s.initialized()),
         327 => one(flag(s.keeps_rule())),
-        _ => and_trends(Reply::new(), s.step(f64_of(given, 4))),
+        _ => and_trends(Reply::new(), s.update_unchecked(f64_of(given, 4))),
     }
 }
 

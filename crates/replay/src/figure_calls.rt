@@ -14,21 +14,21 @@ use crate::tables::wide_u32;
 use crate::wire_calls::receiver_of;
 use figures::Counters;
 use figures::RoundTrip;
-use figures::delivery_ratio;
-use figures::goodput_after;
+use figures::delivery_ratio_unchecked;
+use figures::goodput_after_unchecked;
 use figures::goodput_ok;
 use figures::is_stale;
 use figures::round_trip;
-use figures::smoothed_ms;
+use figures::smoothed_ms_unchecked;
 use figures::tallies_ok;
 
 pub fn answer(given: &[u64]) -> Reply {
     match u64_of(given, 0) {
         631 => one(flag(is_stale(counters_of(given), receiver_of(from(given, 6))))),
         632 => of_round_trip(round_trip(receiver_of(from(given, 1)), u32_of(given, 15))),
-        633 => one(float_pattern(smoothed_ms(round_trip_of(from(given, 1))))),
+        633 => one(float_pattern(smoothed_ms_unchecked(round_trip_of(from(given, 1))))),
         634 => of_tallies(given),
-        635 => one(float_pattern(delivery_ratio(u64_of(given, 1), u64_of(given, 2)))),
+        635 => one(float_pattern(delivery_ratio_unchecked(u64_of(given, 1), u64_of(given, 2)))),
         636 => one(flag(goodput_ok(f64_of(given, 1)))),
         _ => of_goodput(given),
     }
@@ -64,7 +64,7 @@ fn of_tallies(given: &[u64]) -> Reply {
 
 fn of_goodput(given: &[u64]) -> Reply {
     let prev_ms = optional_of(from(given, 3));
-    one(float_pattern(goodput_after(
+    one(float_pattern(goodput_after_unchecked(
         f64_of(given, 1),
         u64_of(given, 2),
         prev_ms,

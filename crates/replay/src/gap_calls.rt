@@ -1,6 +1,7 @@
-// Calls 451 to 458: `GapTracker`.
+// Calls 451 to 458 and 471 to 473: `GapTracker`.
 use crate::reply::Reply;
 use crate::reply::one;
+use crate::reply::refusal;
 use crate::tables::flag;
 use crate::tables::flag_of;
 use crate::tables::from;
@@ -13,18 +14,24 @@ use crate::tables::wide_u32;
 use gaps::GapTracker;
 use gaps::IntervalStats;
 use gaps::Observed;
+use gaps::checked::GapObserved;
+use gaps::checked::GapStats;
+use gaps::checked::GapUpdate;
 use gaps::mean_burst;
 
 pub fn answer(given: &[u64]) -> Reply {
     let t = tracker_of(from(given, 1));
     match u64_of(given, 0) {
         451 => and_tracker(Reply::new(), GapTracker::new()),
-        452 => of_observed(t.observe(u64_of(given, 8))),
-        453 => of_stats(t.take_interval_stats()),
-        454 => and_tracker(Reply::new(), t.finish_burst()),
+        452 => of_observed(t.observe_unchecked(u64_of(given, 8))),
+        453 => of_stats(t.take_interval_stats_unchecked()),
+        454 => and_tracker(Reply::new(), t.finish_burst_unchecked()),
         455 => one(flag(t.keeps_rule())),
         456 => one(flag(t.begins_burst(u64_of(given, 8)))),
         457 => one(flag(t.bursts_ok(u64_of(given, 8)))),
+        471 => of_gap_observed(t.observe(u64_of(given, 8))),
+        472 => of_gap_stats(t.take_interval_stats()),
+        473 => of_gap_update(t.finish_burst()),
         _ => one(wide_u16(mean_burst(u64_of(given, 1), u32_of(given, 2)))),
     }
 }
@@ -63,4 +70,23 @@ fn of_stats(s: IntervalStats) -> Reply {
     let t = s.tracker;
     let head = one(wide_u32(s.count)).and_u16(s.max).and_u16(s.mean);
     and_tracker(head, t)
+}
+
+fn of_gap_observed(o: GapObserved) -> Reply {
+    let t = o.tracker;
+    and_tracker(refusal(o.refusal).and(o.lost), t)
+}
+
+fn of_gap_stats(s: GapStats) -> Reply {
+    let t = s.tracker;
+    let head = refusal(s.refusal)
+        .and_u32(s.count)
+        .and_u16(s.max)
+        .and_u16(s.mean);
+    and_tracker(head, t)
+}
+
+fn of_gap_update(u: GapUpdate) -> Reply {
+    let t = u.tracker;
+    and_tracker(refusal(u.refusal), t)
 }

@@ -21,7 +21,7 @@ pub fn answer(given: &[u64]) -> Reply {
         303 => of_update(s.update(i32_of(given, 2))),
         304 => of_u32(s.jitter_us()),
         305 => one(flag(s.keeps_rule())),
-        _ => of_state(s.step(i32_of(given, 2))),
+        _ => of_state(s.update_unchecked(i32_of(given, 2))),
     }
 }
 

@@ -1,4 +1,4 @@
-// Calls 331 to 336: `OwdTrendDetector`.
+// Calls 331 to 338: `OwdTrendDetector`.
 use crate::reply::Reply;
 use crate::reply::one;
 use crate::reply::refusal;
@@ -18,6 +18,7 @@ pub fn answer(given: &[u64]) -> Reply {
         331 => and_detector(Reply::new(), OwdTrendDetector::new(usize_of(given, 1))),
         332 => of_update(s.clear()),
         335 => one(flag(s.keeps_rule())),
+        337 => and_detector(Reply::new(), s.clear_unchecked()),
         _ => one(flag(s.windows_ok(usize_of(given, 4), usize_of(given, 5)))),
     }
 }
@@ -49,6 +50,12 @@ fn of_update(u: OwdUpdate) -> Reply {
 pub fn pushed(given: &[u64], times: &mut [u32], delays: &mut [i64]) -> Reply {
     let s = detector_of(from(given, 1));
     of_update(s.push(times, delays, u32_of(given, 4), i64_of(given, 5)))
+}
+
+pub fn pushed_unchecked(given: &[u64], times: &mut [u32], delays: &mut [i64]) -> Reply {
+    let s = detector_of(from(given, 1));
+    let after = s.push_unchecked(times, delays, u32_of(given, 4), i64_of(given, 5));
+    and_detector(Reply::new(), after)
 }
 
 pub fn trend(given: &[u64], times: &[u32], delays: &[i64]) -> Reply {

@@ -1,8 +1,9 @@
-// Calls 461 to 466: the sampling half of a frame.
+// Calls 461 to 467: the sampling half of a frame.
 use crate::owd_calls::and_detector;
 use crate::owd_calls::detector_of;
 use crate::reply::Reply;
 use crate::reply::one;
+use crate::reply::refusal;
 use crate::reply::two;
 use crate::tables::flag;
 use crate::tables::flag_of;
@@ -18,12 +19,14 @@ use algorithms::jitter::JitterEstimator;
 use samples::Echo;
 use samples::OwdBase;
 use samples::OwdReference;
-use samples::base_of;
-use samples::echo_of;
+use samples::OwdSampled;
+use samples::base_of_unchecked;
+use samples::echo_of_unchecked;
 use samples::in_grace;
-use samples::jitter_after;
+use samples::jitter_after_unchecked;
 use samples::reference_ok;
 use samples::sample_owd;
+use samples::sample_owd_unchecked;
 
 // The calls that take no windows.
 pub fn answer(given: &[u64]) -> Reply {
@@ -32,8 +35,8 @@ pub fn answer(given: &[u64]) -> Reply {
         461 => one(flag(in_grace(optional_of(first), u64_of(given, 3)))),
         462 => jitter(given),
         463 => one(flag(reference_ok(reference_of(first)))),
-        464 => of_base(base_of(reference_of(first), u64_of(given, 4), u32_of(given, 5))),
-        _ => of_echo(echo_of(optional_of(first), u32_of(given, 3), u64_of(given, 4))),
+        464 => of_base(base_of_unchecked(reference_of(first), u64_of(given, 4), u32_of(given, 5))),
+        _ => of_echo(echo_of_unchecked(optional_of(first), u32_of(given, 3), u64_of(given, 4))),
     }
 }
 
@@ -59,7 +62,7 @@ fn jitter(given: &[u64]) -> Reply {
         jitter_q4: i64_of(given, 1),
     };
     let last_recv_ms = optional_of(from(given, 2));
-    let after = jitter_after(
+    let after = jitter_after_unchecked(
         before,
         last_recv_ms,
         u32_of(given, 4),
@@ -77,7 +80,22 @@ fn of_echo(e: Echo) -> Reply {
     two(wide_u32(e.timestamp_echo), wide_u16(e.dwell_time))
 }
 
-// The call that samples into the windows.
+// The calls that sample into the windows.
+
+pub fn sampled_unchecked(given: &[u64], times: &mut [u32], delays: &mut [i64]) -> Reply {
+    let window = detector_of(from(given, 1));
+    let owd_ref = reference_of(from(given, 4));
+    let after = sample_owd_unchecked(
+        window,
+        owd_ref,
+        times,
+        delays,
+        u32_of(given, 7),
+        u64_of(given, 8),
+    );
+    and_detector(Reply::new(), after)
+}
+
 pub fn sampled(given: &[u64], times: &mut [u32], delays: &mut [i64]) -> Reply {
     let window = detector_of(from(given, 1));
     let owd_ref = reference_of(from(given, 4));
@@ -89,5 +107,11 @@ pub fn sampled(given: &[u64], times: &mut [u32], delays: &mut [i64]) -> Reply {
         u32_of(given, 7),
         u64_of(given, 8),
     );
-    and_detector(Reply::new(), after)
+    of_sampled(after)
+}
+
+fn of_sampled(s: OwdSampled) -> Reply {
+    let owd_trend = s.owd_trend;
+    let owd_ref = s.owd_ref;
+    and_reference(and_detector(refusal(s.refusal), owd_trend), owd_ref)
 }

@@ -1,4 +1,4 @@
-// The calls on windows: 333, 334, 466, 504, 505 and 507.
+// The calls on windows: 333, 334, 338, 466, 467, 504, 505 and 507.
 use crate::owd_calls;
 use crate::receiver_calls;
 use crate::reply::Reply;
@@ -17,9 +17,9 @@ use crate::windows::times_of;
 // Where the times of a call's windows stand; the delays come behind them.
 fn windows_at(call: u64) -> usize {
     match call {
-        333 => 6,
+        333 | 338 => 6,
         334 => 4,
-        466 => 9,
+        466 | 467 => 9,
         504 => 38,
         505 => 37,
         _ => 33,
@@ -52,7 +52,9 @@ fn reply_of(given: &[u64], times: &mut [u32], delays: &mut [i64]) -> Reply {
     match u64_of(given, 0) {
         333 => owd_calls::pushed(given, times, delays),
         334 => owd_calls::trend(given, times, delays),
-        466 => sample_calls::sampled(given, times, delays),
+        338 => owd_calls::pushed_unchecked(given, times, delays),
+        466 => sample_calls::sampled_unchecked(given, times, delays),
+        467 => sample_calls::sampled(given, times, delays),
         504 => receiver_calls::record_frame(given, times, delays),
         505 => receiver_calls::record_recv(given, times, delays),
         _ => receiver_calls::build_report(given, times, delays),

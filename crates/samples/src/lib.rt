@@ -85,7 +85,7 @@ pub fn jitter_after_unchecked(
         OptionU64::None => jitter,
         OptionU64::Some(last) => {
             let difference = transit(saturating_sub(now_ms, last), timestamp, last_timestamp);
-            jitter.step(difference)
+            jitter.update_unchecked(difference)
         }
     }
 }

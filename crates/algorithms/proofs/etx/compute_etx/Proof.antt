@@ -10,7 +10,7 @@ returns c =
     let g = c .before .before in
     rw (
       c .of .ensures,
-      c .before .etx-of .ensures,
+      c .before .compute-etx-unchecked .ensures,
       g .first-no .ensures,
       g .before .ratio-ok2 .ensures,
       g .before .before .ratio-ok .ensures,

@@ -10,7 +10,7 @@ returns c =
     let g = c .before .before in
     rw (
       c .of .ensures,
-      c .before .quality-of .ensures,
+      c .before .quality-index-unchecked .ensures,
       g .first-no .ensures,
       g .before .rtt-ms-ok .ensures,
       g .before .before .etx-ok .ensures,

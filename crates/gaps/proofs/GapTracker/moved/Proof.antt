@@ -7,7 +7,7 @@ use Rattle.gaps.proofs.GapTracker.moved.Tie as tie
 
 in-order : tie.Need-returns
 unfolding moved
-in-order c = yes _ (eq-eqb _ 0 (c .before .if1 .taken)) (c .finish-burst .ensures)
+in-order c = yes _ (eq-eqb _ 0 (c .before .if1 .taken)) (c .finish-burst-unchecked .ensures)
 
 gap : tie.Need-returns-2
 unfolding moved

@@ -11,11 +11,11 @@ moved c =
     let i = c .before .before .before .before .before in
     let s = i .before .before in
     rw (
-      c .step2 .ensures,
-      c .before .etx-of .ensures,
-      c .before .before .step .ensures,
+      c .update-unchecked2 .ensures,
+      c .before .compute-etx-unchecked .ensures,
+      c .before .before .update-unchecked .ensures,
       c .before .before .before .one-minus .ensures,
-      c .before .before .before .before .delivery-ratio .ensures,
+      c .before .before .before .before .delivery-ratio-unchecked .ensures,
       s .saturating-sub2 .ensures,
       s .before .saturating-sub .ensures,
     )

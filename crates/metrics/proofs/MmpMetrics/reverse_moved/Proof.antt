@@ -10,7 +10,7 @@ unfolding reverseMoved
 moved c =
     let i = c .before .before in
     let s = i .before .before in
-    rw (c .etx-of .ensures, c .before .delivery-ratio .ensures, s .saturating-sub2 .ensures, s .before .saturating-sub .ensures)
+    rw (c .compute-etx-unchecked .ensures, c .before .delivery-ratio-unchecked .ensures, s .saturating-sub2 .ensures, s .before .saturating-sub .ensures)
     (yes _ (rw (s .before .saturating-sub .ensures) at (i .if1 .taken)) refl)
 
 left : tie.Need-returns-2

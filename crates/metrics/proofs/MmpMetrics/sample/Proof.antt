@@ -15,7 +15,7 @@ unfolding sampled
 returns c =
     let t = c .before .before .before .before .before in
     let a = t .before .before .before in
-    rw (t .step2 .ensures, t .before .nearest-u64-to-f64 .ensures, t .before .before .step .ensures, signed-kept (sampleUs (a .args .ms)) (omega (arith, a .fits .ms)))
+    rw (t .update-unchecked2 .ensures, t .before .nearest-u64-to-f64 .ensures, t .before .before .update-unchecked .ensures, signed-kept (sampleUs (a .args .ms)) (omega (arith, a .fits .ms)))
 
 pub sample-spec : {M : Type 1} → statement M
 sample-spec = tie.close (tie.spec (λ c. search needs) (λ c. search needs) (λ c κs. tt) (λ c κs. tt) (λ c κs. tt) room returns)

@@ -12,4 +12,4 @@ srtt-ms-spec =
     (λ c κs. tt)
     (λ c κs. tt)
     (λ c κs. tt)
-    (λ c. rw (c .of .ensures, c .before .refusal .ensures, c .before .before .then-some .ensures, c .before .before .before .smoothed-ms .ensures)))
+    (λ c. rw (c .of .ensures, c .before .refusal .ensures, c .before .before .then-some .ensures, c .before .before .before .smoothed-ms-unchecked .ensures)))

@@ -10,7 +10,7 @@ no-echo c = rw (c .enum-told .given .1)
 
 sample : tie.Need-returns-2
 unfolding tripLog
-sample c = rw (c .before .before .trip .given .1, c .smoothed-ms .ensures)
+sample c = rw (c .before .before .trip .given .1, c .smoothed-ms-unchecked .ensures)
 
 zero : tie.Need-returns-3
 unfolding tripLog

@@ -11,7 +11,7 @@ unfolding built
 some c =
     let r = c .before .before in
     let t = r .before in
-    yes _ (t .before .if1 .taken) (rw (c .reported .ensures, r .report .ensures, t .take-interval-stats .ensures, toZ-ofZ {w = w32} (t .before .before .fits .owd-trend)))
+    yes _ (t .before .if1 .taken) (rw (c .reported .ensures, r .report .ensures, t .take-interval-stats-unchecked .ensures, toZ-ofZ {w = w32} (t .before .before .fits .owd-trend)))
 
 none : tie.Need-returns-2
 unfolding built

@@ -15,7 +15,7 @@ accepted : tie.Need-returns
 unfolding updateOf
 accepted c =
     let b = c .before .before in
-    rw (c .step .ensures, gate b, eq-eqb _ 0 (sym (gate b) ∙ c .before .if1 .taken))
+    rw (c .update-unchecked .ensures, gate b, eq-eqb _ 0 (sym (gate b) ∙ c .before .if1 .taken))
 
 refused : tie.Need-returns-2
 unfolding updateOf

@@ -11,7 +11,7 @@ accepted : tie.Need-returns
 unfolding updateOf
 accepted c =
     let b = c .before .before in
-    rw (c .step .ensures, toZ-ofZ {w = w32} (b .before .fits .transit-delta), b .refusal .ensures, eq-eqb _ 0 (sym (b .refusal .ensures) ∙ c .before .if1 .taken))
+    rw (c .update-unchecked .ensures, toZ-ofZ {w = w32} (b .before .fits .transit-delta), b .refusal .ensures, eq-eqb _ 0 (sym (b .refusal .ensures) ∙ c .before .if1 .taken))
 
 refused : tie.Need-returns-2
 unfolding updateOf

@@ -15,7 +15,7 @@ accepted : tie.Need-returns
 unfolding rxObserveOf
 accepted c =
     let b = c .before .before in
-    rw (c .observe .ensures, eq-eqb _ 0 (sym (gate b) ∙ c .before .if1 .taken))
+    rw (c .rx-observe-unchecked .ensures, eq-eqb _ 0 (sym (gate b) ∙ c .before .if1 .taken))
 
 refused : tie.Need-returns-2
 unfolding rxObserveOf

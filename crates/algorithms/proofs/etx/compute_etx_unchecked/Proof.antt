@@ -1,10 +1,10 @@
--- `algorithms::etx::etx_of` meets its contract. Assumes nothing.
+-- `algorithms::etx::compute_etx_unchecked` meets its contract. Assumes nothing.
 use mathlib.Core.Path.{refl}
 use lib.Ieee.{ofBits}
 use Rattle.refusals.proofs.PickedByTest.{yes, no}
 use Rattle.algorithms.specs.Etx.{etxOf}
-use Rattle.algorithms.proofs.etx.etx_of.Statement.{statement}
-use Rattle.algorithms.proofs.etx.etx_of.Tie as tie
+use Rattle.algorithms.proofs.etx.compute_etx_unchecked.Statement.{statement}
+use Rattle.algorithms.proofs.etx.compute_etx_unchecked.Tie as tie
 
 returns : tie.Need-returns
 unfolding etxOf ofBits
@@ -17,5 +17,5 @@ returns-2 : tie.Need-returns-2
 unfolding etxOf ofBits
 returns-2 c = no _ (c .before .if1 .left) (c .clamp .ensures)
 
-pub etx-of-spec : {M : Type 1} → statement M
-etx-of-spec = tie.close (tie.spec returns clamp-requires returns-2)
+pub compute-etx-unchecked-spec : {M : Type 1} → statement M
+compute-etx-unchecked-spec = tie.close (tie.spec returns clamp-requires returns-2)

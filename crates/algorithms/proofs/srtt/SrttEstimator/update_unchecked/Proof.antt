@@ -1,4 +1,4 @@
--- `algorithms::srtt::SrttEstimator::step` meets its contract. Assumes nothing.
+-- `algorithms::srtt::SrttEstimator::update_unchecked` meets its contract. Assumes nothing.
 use mathlib.Core.Path.{_≡_, ap, _∙_}
 use Prim.Native.Nat.{ℕ, _/_, _<_, _^_}
 use native.Mathlib.Omega.{arith}
@@ -8,8 +8,8 @@ use Rattle.numbers.specs.RoundTrip.{srttStep, rttvarStep, estimateStep}
 use Rattle.numbers.specs.Signs.{asUnsigned}
 use Rattle.numbers.proofs.SignTold.{unsigned-read, unsigned-below, signed-kept}
 use Rattle.algorithms.specs.Srtt.{estimateIn, stepped}
-use Rattle.algorithms.proofs.srtt.SrttEstimator.step.Statement.{statement}
-use Rattle.algorithms.proofs.srtt.SrttEstimator.step.Tie as tie
+use Rattle.algorithms.proofs.srtt.SrttEstimator.update_unchecked.Statement.{statement}
+use Rattle.algorithms.proofs.srtt.SrttEstimator.update_unchecked.Tie as tie
 
 srtt-fits : (s r : ℕ) → s < 2 ^ 63 → r < 2 ^ 63 → srttStep s r < 2 ^ 63
 srtt-fits s r hs hr = omega arith
@@ -81,8 +81,8 @@ first c =
       c .before .before .if1 .left,
     )
 
-pub step-spec : {M : Type 1} → statement M
-step-spec =
+pub update-unchecked-spec : {M : Type 1} → statement M
+update-unchecked-spec =
     tie.close
     (tie.spec
     (λ c κs. tt)

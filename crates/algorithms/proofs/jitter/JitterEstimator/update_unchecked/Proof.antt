@@ -1,4 +1,4 @@
--- `algorithms::jitter::JitterEstimator::step` meets its contract. Assumes nothing.
+-- `algorithms::jitter::JitterEstimator::update_unchecked` meets its contract. Assumes nothing.
 use mathlib.Core.Path.{_≡_, ap, _∙_}
 use Prim.Native.Nat.{ℕ, _<_, _≤_, _^_}
 use native.Mathlib.Omega.{arith}
@@ -9,8 +9,8 @@ use Rattle.numbers.specs.Jitter.{jitterStep}
 use Rattle.numbers.specs.Signs.{asUnsigned}
 use Rattle.numbers.proofs.SignTold.{unsigned-read, unsigned-below, signed-kept, magnitude-at-most}
 use Rattle.algorithms.specs.Jitter.{stepped}
-use Rattle.algorithms.proofs.jitter.JitterEstimator.step.Statement.{statement}
-use Rattle.algorithms.proofs.jitter.JitterEstimator.step.Tie as tie
+use Rattle.algorithms.proofs.jitter.JitterEstimator.update_unchecked.Statement.{statement}
+use Rattle.algorithms.proofs.jitter.JitterEstimator.update_unchecked.Tie as tie
 
 fits : (j d : ℕ) → j < 2 ^ 63 → d ≤ 2 ^ 31 → jitterStep j d < 2 ^ 63
 fits j d hj hd = omega arith
@@ -38,5 +38,5 @@ returns c =
       signed-kept _ (fits (asUnsigned (a .self .«jitter_q4»)) (natAbs (a .transit-delta)) j d),
     )
 
-pub step-spec : {M : Type 1} → statement M
-step-spec = tie.close (tie.spec (λ c κs. tt) (λ c κs. tt) (λ c κs. tt) (λ c κs. tt) returns)
+pub update-unchecked-spec : {M : Type 1} → statement M
+update-unchecked-spec = tie.close (tie.spec (λ c κs. tt) (λ c κs. tt) (λ c κs. tt) (λ c κs. tt) returns)

@@ -1,0 +1,20 @@
+-- `gaps::GapTracker::observe_unchecked` meets its contract. Assumes nothing.
+use mathlib.Core.Path.{sym, ap}
+use borrow.Author.Needs.{needs}
+use Rattle.gaps.specs.Gaps.{observedAfter, observed}
+use Rattle.gaps.proofs.GapTracker.observe_unchecked.Statement.{statement}
+use Rattle.gaps.proofs.GapTracker.observe_unchecked.Tie as tie
+
+first : tie.Need-returns
+unfolding observed
+first c = rw (c .before .before .enum-told .given .1, c .expecting .ensures, c .before .saturating-add-u64 .ensures)
+
+later : tie.Need-returns-2
+unfolding observed
+later c =
+    let a = c .before .before .before .before .before .before .before .args in
+    rw (c .expecting2 .ensures, c .before .moved .ensures, c .before .before .next-after .ensures, c .before .before .before .saturating-sub .ensures)
+    (sym (ap (λ o. observedAfter o (a .self) (a .counter)) (c .before .before .before .before .before .expected-next .given .1)))
+
+pub observe-unchecked-spec : {M : Type 1} → statement M
+observe-unchecked-spec = tie.close (tie.spec (λ c. search needs) (λ c κs. tt) (λ c κs. tt) (λ c. search needs) (λ c κs. tt) (λ c κs. tt) (λ c κs. tt) (λ c κs. tt) first later)
