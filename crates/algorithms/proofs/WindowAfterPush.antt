@@ -119,7 +119,7 @@ pairs-drop (suc k) (x ∷ a) [] = pairs-none (drop k a)
     pairs-none (x ∷ a) = refl
 pairs-drop (suc k) (x ∷ a) (y ∷ b) = pairs-drop k a b
 
-grown-window : (s : OwdTrendDetector) (ts : List ℕ) (ds : List ℤ) (at : ℕ) (us : ℤ) → Lent s ts ds
+pub grown-window : (s : OwdTrendDetector) (ts : List ℕ) (ds : List ℤ) (at : ℕ) (us : ℤ) → Lent s ts ds
     → window (grown s) (set ts (free s) at) (set ds (free s) us) ≡ drop (dropped s) (window s ts ds ++ pair at us ∷ [])
 unfolding window
 grown-window s ts ds at us h =

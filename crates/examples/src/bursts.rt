@@ -1,4 +1,5 @@
 // Document 01's table, the rows of the counters.
+use crate::lines::holds;
 use crate::lines::number;
 use gaps::GapTracker;
 
@@ -33,4 +34,22 @@ pub fn whole_turn() {
     number(b"counters 0, 65537: bursts", stats.count as u64, 1);
     number(b"counters 0, 65537: max", stats.max as u64, 0);
     number(b"counters 0, 65537: mean", stats.mean as u64, 0);
+}
+
+// A full count of bursts: the frame that would begin one is refused and moves nothing, a frame in order is taken.
+pub fn full_count() {
+    let mut t = after(GapTracker::new(), 0);
+    t.burst_count = 4_294_967_295;
+    let o = t.observe(4);
+    let tracker = o.tracker;
+    number(b"2^32 - 1 bursts, a gap: refusal", o.refusal as u64, 10);
+    holds(
+        b"2^32 - 1 bursts, a gap: no burst begins",
+        !tracker.in_burst,
+    );
+    number(
+        b"2^32 - 1 bursts, no gap: refusal",
+        t.observe(1).refusal as u64,
+        0,
+    );
 }

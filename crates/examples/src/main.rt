@@ -35,6 +35,7 @@ fn main() {
     bursts::two_bursts();
     bursts::one_burst();
     bursts::whole_turn();
+    bursts::full_count();
     lines::heading(b"reports\n");
     reports::sender();
     reports::receiver();

@@ -1,4 +1,5 @@
-// What one receiver report says of a link, each figure from a few numbers: metrics.rs without its record.
+// What one receiver report says of a link, each figure from a few numbers: metrics.rs without its record. `_unchecked` is for a record that has asked the
+// questions.
 
 ghost use mathlib.Core.Path.{_≡_};
 ghost use Rattle.figures.specs.Stale.{saved, stale};
@@ -105,7 +106,7 @@ pub fn tallies_ok(reports_seen: u64, samples: u64, zeros: u64, failures: u64) ->
 
 // --- Delivery ---
 
-// The packets that came of those that were sent, from 0 to 1.
+// The packets that came of those that were sent, from 0 to 1. A span of 0 is left out before.
 pub fn delivery_ratio_unchecked(packets: u64, span: u64) -> f64
     ensures { λ r. ⌜ r ≡ deliveryRatio packets span ⌝ }
 {

@@ -21,7 +21,11 @@ pub fn answer(given: &[u64]) -> Reply {
         354 => of_bool(s.tx_bit()),
         355 => of_observed(s.rx_observe(flag_of(given, 6), u64_of(given, 7), u64_of(given, 8))),
         356 => one(flag(s.keeps_rule())),
-        _ => of_observed(s.rx_observe_unchecked(flag_of(given, 6), u64_of(given, 7), u64_of(given, 8))),
+        _ => of_observed(s.rx_observe_unchecked(
+            flag_of(given, 6),
+            u64_of(given, 7),
+            u64_of(given, 8),
+        )),
     }
 }
 

@@ -1,4 +1,5 @@
-// receiver.rs, the sampling half of a frame: transit difference, grace, one-way delay from a reference, and the echo of a report.
+// receiver.rs, the sampling half of a frame: transit difference, grace, one-way delay from a reference, and the echo of a report. `_unchecked` is for a record
+// that has asked the questions.
 
 ghost use mathlib.Core.Path.{_≡_};
 ghost use Prim.Native.Nat.{_<_, _^_};
