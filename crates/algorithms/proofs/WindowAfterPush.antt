@@ -119,6 +119,7 @@ pairs-drop (suc k) (x ∷ a) [] = pairs-none (drop k a)
     pairs-none (x ∷ a) = refl
 pairs-drop (suc k) (x ∷ a) (y ∷ b) = pairs-drop k a b
 
+-- a pair in the free slot is the window's newest, and a full window has dropped its oldest
 pub grown-window : (s : OwdTrendDetector) (ts : List ℕ) (ds : List ℤ) (at : ℕ) (us : ℤ) → Lent s ts ds
     → window (grown s) (set ts (free s) at) (set ds (free s) us) ≡ drop (dropped s) (window s ts ds ++ pair at us ∷ [])
 unfolding window
@@ -128,7 +129,7 @@ grown-window s ts ds at us h =
     rw (live-after-push s ts at (h .rule) (h .times-fit), live-after-push s ds us (h .rule) (h .delays-fit))
     (pairs-drop (dropped s) (live s ts ++ at ∷ []) (live s ds ++ us ∷ []) ∙ ap (drop (dropped s)) (pairs-append (live s ts) (at ∷ []) (live s ds) (us ∷ []) (a ∙ sym b)))
 
--- an accepted push appends its pair, and a full window drops its oldest
+-- the same of an accepted push
 pub push-window : (s : OwdTrendDetector) (ts : List ℕ) (ds : List ℤ) (at : ℕ) (us : ℤ) → pushRefusal s ts ds us ≡ 0
     → window (pushAnswer s ts ds us .state) (stored (pushRefusal s ts ds us) s at ts) (stored (pushRefusal s ts ds us) s us ds) ≡ drop (dropped s) (window s ts ds ++ pair at us ∷ [])
 unfolding pushAnswer stored

@@ -95,7 +95,7 @@ impl ReceiverState {
             & frame_size_ok(bytes)
     }
 
-    // Every question of a frame is answered yes. A no says nothing.
+    // Every question of a frame is answered yes; 5, of its sample, always is. A no says nothing.
     fn well_within(self, times: usize, delays: usize, bytes: usize, now_ms: u64) -> bool
         ensures { λ r. ⌜ (r ≡ true → (counter : ℕ) → firstNo (
             question 1 (keepsRule self)
@@ -113,7 +113,7 @@ impl ReceiverState {
         window & counts & jitter & clocks
     }
 
-    // The refusal of a frame.
+    // The refusal of a frame. Question 5 is left out: every sample is in range.
     fn frame_refusal(
         self,
         times: usize,
