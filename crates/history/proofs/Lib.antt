@@ -13,6 +13,7 @@ pub mod MetricsAsked
 pub mod SeenAside
 pub mod NoCreepHolds
 pub mod RekeySaid
+pub mod LogSaid
 pub mod ExampleComputed
 pub mod Tellings
 pub mod SenderRows

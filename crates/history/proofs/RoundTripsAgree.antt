@@ -1,5 +1,5 @@
 -- The stale test and the round trip that history's exact side reads off a report are those of `figures`.
-use mathlib.Core.Path.{_≡_, refl, ap₂}
+use mathlib.Core.Path.{_≡_, refl, ap, ap₂}
 use mathlib.Core.Bool.{Bool, true, false, cond, _&&_, _||_}
 use mathlib.Core.List.{List, [], _∷_, foldl}
 use Prim.Native.Nat.{ℕ, _+_, _-_, _<_, _≤_}
@@ -81,3 +81,29 @@ trip-agrees e rr ours =
     go false false false no-echo some early late same other =
         let past : done < ours = let a = late refl in let b = other refl in omega arith in
         rw (lt-ltb 0 echo (pos-of-ne-zero (some refl)), lt-ltb done ours past)
+
+-- a sample is the round trip
+pub sample-agrees : (rr : ReceiverReport) (ours ms : ℕ) → roundTrip rr ours ≡ Sample ms → exact.tripMs rr ours ≡ ms ∷ []
+unfolding roundTrip exact.tripMs
+sample-agrees rr ours ms = go (eqb echo 0) (ltb ours done) (eqb ours done) (eqb-false echo 0) (ltb-false ours done) (eqb-false ours done)
+  where
+    echo : ℕ
+    echo = rr .«timestamp_echo»
+
+    done : ℕ
+    done = sendDone rr
+
+    go :
+        (a b c : Bool) →
+        (a ≡ false → echo ≡ 0 → ⊥) →
+        (b ≡ false → done ≤ ours) →
+        (c ≡ false → ours ≡ done → ⊥) →
+        cond a NoEcho (cond b ArithFail (cond c Zero (Sample (ours - done)))) ≡ Sample ms →
+        cond (ltb 0 echo && ltb done ours) ((ours - done) ∷ []) [] ≡ ms ∷ []
+    go true b c some late other e = let z : _≡_ {A = ℕ} 0 1 = cc in absurd (omega arith)
+    go false true c some late other e = let z : _≡_ {A = ℕ} 0 1 = cc in absurd (omega arith)
+    go false false true some late other e = let z : _≡_ {A = ℕ} 0 1 = cc in absurd (omega arith)
+    go false false false some late other e =
+        let past : done < ours = let a = late refl in let b = other refl in omega arith in
+        let same : ours - done ≡ ms = cc in
+        rw (lt-ltb 0 echo (pos-of-ne-zero (some refl)), lt-ltb done ours past) (ap (λ (n : ℕ). n ∷ []) same)

@@ -9,5 +9,6 @@ pub mod Recount
 pub mod Ends
 pub mod Asked
 pub mod Rekey
+pub mod LogEntry
 pub mod NoCreep
 pub mod Example
