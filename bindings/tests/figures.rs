@@ -2,7 +2,7 @@
 
 use oracle::proto::mmp::algorithms;
 use oracle::proto::mmp::algorithms::oracle_access::{jitter, jitter_q4};
-use oracle::rng::Rng;
+use oracle::script::rng::Rng;
 use siwolkert::raw::{mmp_compute_etx, mmp_jitter_update};
 use siwolkert::{compute_etx, jitter_update, Refusal};
 

@@ -51,7 +51,7 @@ fn written_beside_a_seven_only() {
 #[test]
 fn a_million_of_each() {
     let bytes = vec![0x5A; 1000];
-    let mut rng = oracle::rng::Rng::new(3);
+    let mut rng = oracle::script::rng::Rng::new(3);
     for _ in 0..1_000_000 {
         let payload = &bytes[..(rng.draw() % 100) as usize];
         assert_eq!(check_sender_payload(payload), expected(SenderReport::decode(payload)));

@@ -1,7 +1,7 @@
 //! The lent sender's record, beside the commit's `SenderState`: histories, states near every boundary, and states that break the rule.
 
 use oracle::proto::mmp::sender::oracle_access::{fields, state, Fields};
-use oracle::rng::Rng;
+use oracle::script::rng::Rng;
 use siwolkert::raw::mmp_sender_build_report;
 use siwolkert::{Refusal, SenderReport, SenderState};
 

@@ -1,13 +1,20 @@
 //! The points at which the commit, the RFCs and the rules part, each run on its smallest input, and whether docs/DIFFERENCES.md has them as they were run.
 
+pub mod bursts;
+pub mod figures;
+pub mod metrics;
+pub mod receiver;
+pub mod rfcs;
+pub mod sender;
+
 use std::hint::black_box;
 use std::path::Path;
 use std::{fs, io};
 
-use crate::case::{commit, Answer, Case};
-use crate::report::Report;
-use crate::tables::{call, Part};
-use crate::{differences_figures, differences_records, differences_rfcs, script};
+use crate::script;
+use crate::script::case::{commit, Answer, Case};
+use crate::script::report::Report;
+use crate::script::tables::{call, Part};
 
 /// The cells of a row, those that this build has run.
 type Row = Vec<Option<String>>;
@@ -31,6 +38,11 @@ fn told(case: &Case, shown: impl FnOnce(&[u64]) -> String) -> String {
         n if refuses && n > 0 => format!("refusal {n}"),
         _ => shown(numbers),
     }
+}
+
+/// A bit as a word.
+fn yes(bit: u64) -> String {
+    if bit == 1 { "yes" } else { "no" }.into()
 }
 
 /// As the document writes a number below 0.
@@ -106,9 +118,12 @@ pub fn run(replay: &Path, document: &Path) -> io::Result<bool> {
         rows: vec![],
         cases: vec![],
     };
-    differences_figures::rows(&mut points);
-    differences_records::rows(&mut points);
-    differences_rfcs::rows(&mut points);
+    figures::rows(&mut points);
+    sender::rows(&mut points);
+    bursts::rows(&mut points);
+    receiver::rows(&mut points);
+    metrics::rows(&mut points);
+    rfcs::rows(&mut points);
     let document = fs::read_to_string(document)?;
     let there = rows_of(&document);
     let lacks = |row: &&Row| !there.iter().any(|line| stands(line, row, points.checked));

@@ -1,15 +1,19 @@
 //! Histories of two ends beside the exact averages, and the same with stale reports struck out. What runs is the commit's own Rust behind the refusals.
 
-use crate::case::{Answer, Case};
-use crate::climb;
-use crate::ends::{Call, End, History};
-use crate::exact::{Frames, Reports};
-use crate::link_cases::{lived, new_end, report_built};
-use crate::metrics_call;
+pub mod climb;
+pub mod exact;
+pub mod sample_lists;
+pub mod whole;
+
+use crate::cases::links::{lived, new_end, report_built};
+use crate::histories::exact::{Frames, Reports};
+use crate::histories::sample_lists::{any_samples, of_jitter_steps, of_round_trips};
+use crate::histories::whole::Whole;
 use crate::proto::mmp::wire::ReceiverReport;
-use crate::rng::Rng;
-use crate::sample_lists::{any_samples, of_jitter_steps, of_round_trips};
-use crate::whole::Whole;
+use crate::records::ends::{Call, End, History};
+use crate::records::metrics_call;
+use crate::script::case::{Answer, Case};
+use crate::script::rng::Rng;
 
 /// The farthest that the figures were from the exact averages, in µs, and how often they were set beside them.
 #[derive(Default)]

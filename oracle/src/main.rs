@@ -13,9 +13,10 @@ use std::path::PathBuf;
 use std::process::ExitCode;
 use std::{env, fs, io};
 
-use oracle::case::{hush_commit, Case};
-use oracle::rng::Rng;
-use oracle::{covered, differences, histories, report, script};
+use oracle::script::case::{hush_commit, Case};
+use oracle::script::rng::Rng;
+use oracle::script::{covered, report};
+use oracle::{differences, histories, script};
 
 struct Options {
     cases: usize,

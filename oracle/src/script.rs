@@ -1,17 +1,26 @@
 //! Scripts made from a seed, and `replay` run on one.
 
+pub mod bounds;
+pub mod case;
+pub mod covered;
+pub mod lines;
+pub mod report;
+pub mod rng;
+pub mod tables;
+
 use std::collections::VecDeque;
 use std::io::{self, Read, Write};
 use std::path::Path;
 use std::process::{Command, Stdio};
 use std::thread;
 
-use crate::case::Case;
-use crate::rng::Rng;
-use crate::tables::calls;
-use crate::{algorithms_cases, codec_cases, field_cases, held_cases, malformed_cases, wire_cases};
-use crate::{figures_cases, metrics_cases, metrics_edges};
-use crate::{gap_cases, link_cases, receiver_cases, receiver_edges, sample_cases, sender_cases};
+use crate::cases::{
+    algorithms, codec, fields, figures, gaps, held, links, malformed, metrics, metrics_edges, receiver, receiver_edges, samples, sender,
+    wire,
+};
+use crate::script::case::Case;
+use crate::script::rng::Rng;
+use crate::script::tables::calls;
 
 /// Calls that are drawn more often than the others, and how often: a report processed, a frame, a report built, and what they lean on.
 const OFTEN: [(u64, usize); 8] = [(603, 7), (507, 3), (334, 3), (504, 2), (505, 2), (605, 2), (462, 2), (466, 2)];
@@ -26,26 +35,26 @@ fn pool() -> Vec<u64> {
 /// A good line of a call.
 fn random_case(rng: &mut Rng, call: u64) -> Case {
     match call {
-        101..=129 => codec_cases::random_case(rng, call),
-        141..=155 => field_cases::random_case(rng, call),
-        161..=174 => held_cases::random_case(rng, call),
-        201..=207 => wire_cases::random_case(rng, call),
-        301..=357 => algorithms_cases::random_case(rng, call),
-        401..=417 => sender_cases::random_case(rng, call),
-        451..=458 | 471..=473 => gap_cases::random_case(rng, call),
-        461..=467 => sample_cases::random_case(rng, call),
-        501..=518 => receiver_cases::random_case(rng, call),
-        601..=619 => metrics_cases::random_case(rng, call),
-        _ => figures_cases::random_case(rng, call),
+        101..=129 => codec::random_case(rng, call),
+        141..=155 => fields::random_case(rng, call),
+        161..=174 => held::random_case(rng, call),
+        201..=207 => wire::random_case(rng, call),
+        301..=357 => algorithms::random_case(rng, call),
+        401..=417 => sender::random_case(rng, call),
+        451..=458 | 471..=473 => gaps::random_case(rng, call),
+        461..=467 => samples::random_case(rng, call),
+        501..=518 => receiver::random_case(rng, call),
+        601..=619 => metrics::random_case(rng, call),
+        _ => figures::random_case(rng, call),
     }
 }
 
 /// Calls on the same records, each on what the last one left.
 fn history(rng: &mut Rng) -> Vec<Case> {
     match rng.below(8) {
-        0 => algorithms_cases::history(rng),
-        1 => gap_cases::history(rng),
-        _ => link_cases::history(rng),
+        0 => algorithms::history(rng),
+        1 => gaps::history(rng),
+        _ => links::history(rng),
     }
 }
 
@@ -54,20 +63,20 @@ const LINKS: usize = 4;
 
 /// The list that is stored: every boundary, some histories of a link, and every way to be malformed.
 pub fn stored(rng: &mut Rng) -> Vec<Case> {
-    let mut cases = codec_cases::boundary_cases(rng);
-    cases.extend(field_cases::boundary_cases(rng));
-    cases.extend(held_cases::boundary_cases(rng));
-    cases.extend(wire_cases::boundary_cases(rng));
-    cases.extend(algorithms_cases::boundary_cases(rng));
-    cases.extend(sender_cases::boundary_cases());
-    cases.extend(gap_cases::boundary_cases());
-    cases.extend(sample_cases::boundary_cases(rng));
+    let mut cases = codec::boundary_cases(rng);
+    cases.extend(fields::boundary_cases(rng));
+    cases.extend(held::boundary_cases(rng));
+    cases.extend(wire::boundary_cases(rng));
+    cases.extend(algorithms::boundary_cases(rng));
+    cases.extend(sender::boundary_cases());
+    cases.extend(gaps::boundary_cases());
+    cases.extend(samples::boundary_cases(rng));
     cases.extend(receiver_edges::boundary_cases());
     cases.extend(metrics_edges::boundary_cases());
-    cases.extend(figures_cases::boundary_cases(rng));
-    let malformed = malformed_cases::boundary_cases(&cases);
+    cases.extend(figures::boundary_cases(rng));
+    let malformed = malformed::boundary_cases(&cases);
     cases.extend(malformed);
-    (0..LINKS).for_each(|_| cases.extend(link_cases::history(rng)));
+    (0..LINKS).for_each(|_| cases.extend(links::history(rng)));
     cases.push(random_case(rng, 603).with_zeros());
     cases
 }
@@ -101,7 +110,7 @@ impl Iterator for Script {
                 0 => self.ready.extend(history(rng)),
                 1..=12 => {
                     let good = random_case(rng, call);
-                    self.ready.push_back(malformed_cases::random_case(rng, &good));
+                    self.ready.push_back(malformed::random_case(rng, &good));
                 }
                 13..=20 => self.ready.push_back(random_case(rng, call).with_zeros()),
                 _ => self.ready.push_back(random_case(rng, call)),

@@ -2,14 +2,14 @@
 /// A state made from its fields, and taken apart.
 pub mod oracle_access {
     use super::MmpMetrics;
-    use crate::{ewma_cases, srtt_cases};
+    use crate::cases::{ewma, srtt};
 
     macro_rules! fields {
         ([$($trend:ident,)*] $($name:ident: $type:ty,)*) => {
             #[derive(Clone, Copy)]
             pub struct Fields {
-                pub srtt: srtt_cases::State,
-                $(pub $trend: ewma_cases::State,)*
+                pub srtt: srtt::State,
+                $(pub $trend: ewma::State,)*
                 $(pub $name: $type,)*
             }
 
@@ -23,8 +23,8 @@ pub mod oracle_access {
 
             pub fn fields(s: &MmpMetrics) -> Fields {
                 Fields {
-                    srtt: srtt_cases::read(&s.srtt),
-                    $($trend: ewma_cases::read(&s.$trend),)*
+                    srtt: srtt::read(&s.srtt),
+                    $($trend: ewma::read(&s.$trend),)*
                     $($name: s.$name,)*
                 }
             }

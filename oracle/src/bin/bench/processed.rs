@@ -2,24 +2,23 @@
 
 use crate::table::{held, is_set, option_sum, place, Numbers};
 use crate::{next, receiver_sum, START};
-use oracle::ewma_cases;
+use oracle::cases::{ewma, srtt};
 use oracle::proto::mmp::metrics::oracle_access::{fields, state, Fields};
 use oracle::proto::mmp::metrics::{MmpMetrics, RrLog};
 use oracle::proto::mmp::wire::ReceiverReport;
-use oracle::srtt_cases;
 
 /// From 0 up to 1.
 type Floats = [f64; 64];
 
 fn state_of(s: &Numbers, f: &Floats, from: usize) -> MmpMetrics {
     let at = |k: usize| s[from + k];
-    let trend = |k: usize, n: u64| ewma_cases::State {
+    let trend = |k: usize, n: u64| ewma::State {
         short: f[from + k],
         long: f[from + k + 1],
         initialized: is_set(n),
     };
     state(&Fields {
-        srtt: srtt_cases::State {
+        srtt: srtt::State {
             srtt_us: at(0) as i64,
             rttvar_us: at(1) as i64,
             initialized: is_set(at(2)),

@@ -1,0 +1,9 @@
+//! The records beside the commit's: their rules and questions as document 01 reads them, the calls on them, and two ends that have them.
+
+pub mod ends;
+pub mod metrics_call;
+pub mod metrics_state;
+pub mod owd_ring;
+pub mod receiver_call;
+pub mod receiver_state;
+pub mod sender_state;

@@ -1,0 +1,100 @@
+//! What the comparison found, call by call.
+
+use std::collections::BTreeMap;
+use std::iter::Sum;
+
+use crate::script::case::{Answer, Case};
+use crate::script::tables::{call, Part};
+
+/// How many differing lines are printed in full.
+const SHOWN: usize = 10;
+
+/// Cases of a call, by what settles the answer.
+#[derive(Default, Clone, Copy)]
+struct Count {
+    cases: usize,
+    /// The commit, by running.
+    commit: usize,
+    /// Document 01: a refusal by its number.
+    refused: usize,
+    /// The rules of docs/REPLAY.md: the commit has no such call or state.
+    rules: usize,
+    different: usize,
+}
+
+impl<'a> Sum<&'a Count> for Count {
+    fn sum<I: Iterator<Item = &'a Count>>(counts: I) -> Self {
+        counts.fold(Count::default(), |all, count| Count {
+            cases: all.cases + count.cases,
+            commit: all.commit + count.commit,
+            refused: all.refused + count.refused,
+            rules: all.rules + count.rules,
+            different: all.different + count.different,
+        })
+    }
+}
+
+#[derive(Default)]
+pub struct Report {
+    counts: BTreeMap<u64, Count>,
+    shown: usize,
+}
+
+/// Whether an answer refuses by a number.
+fn refuses(case: &Case) -> bool {
+    let first = call(case.call).and_then(|call| call.parts.first());
+    matches!(&case.answer, Answer::Numbers(numbers) if first == Some(&(0, Part::Refusal)) && numbers[0] > 0)
+}
+
+impl Report {
+    /// Compares the answers to a script with the expected ones.
+    pub fn add(&mut self, cases: &[Case], answers: &str) {
+        let mut answers = answers.lines();
+        for (i, case) in cases.iter().enumerate() {
+            let count = self.counts.entry(case.call).or_default();
+            count.cases += 1;
+            match (case.outside, refuses(case)) {
+                (false, _) => count.commit += 1,
+                (true, true) => count.refused += 1,
+                (true, false) => count.rules += 1,
+            }
+            let expected = case.expected(i + 1);
+            let answer = answers.next();
+            if answer == Some(expected.as_str()) {
+                continue;
+            }
+            count.different += 1;
+            self.shown += 1;
+            if self.shown <= SHOWN {
+                println!("line {}: {}", i + 1, case.line);
+                println!("  expected {expected}");
+                println!("  answered {}", answer.unwrap_or("nothing"));
+            }
+        }
+        let left = answers.count();
+        if left > 0 {
+            println!("{left} answers more than lines");
+            self.counts.entry(0).or_default().different += left;
+        }
+    }
+
+    pub fn different(&self) -> usize {
+        self.counts.values().map(|count| count.different).sum()
+    }
+
+    /// Prints a line for each call.
+    pub fn print(&self) {
+        println!("     call    cases   commit  refused    rules differences");
+        let row = |name: &str, n: &Count| {
+            println!(
+                "{name:>9} {:>8} {:>8} {:>8} {:>8} {:>11}",
+                n.cases, n.commit, n.refused, n.rules, n.different
+            );
+        };
+        for (call, count) in &self.counts {
+            row(&if *call == 0 { "malformed".into() } else { call.to_string() }, count);
+        }
+        let all: Count = self.counts.values().sum();
+        row("all", &all);
+    }
+}
