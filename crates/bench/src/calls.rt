@@ -6,6 +6,9 @@ use wire::path_mtu::PathMtuNotification;
 use wire::receiver_report::ReceiverReport;
 use wire::sender_report::SenderReport;
 
+// The first random number.
+pub const START: u64 = 88172645463325252;
+
 // The last random number, and the checksum so far.
 pub struct Progress {
     pub random: u64,

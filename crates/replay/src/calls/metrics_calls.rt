@@ -1,6 +1,9 @@
 // Calls 601 to 619: `MmpMetrics`.
-use crate::ewma_calls::and_trends;
-use crate::ewma_calls::trends_of;
+use crate::calls::ewma_calls::and_trends;
+use crate::calls::ewma_calls::trends_of;
+use crate::calls::srtt_calls::and_round_trip;
+use crate::calls::srtt_calls::round_trip_of;
+use crate::calls::wire_calls::receiver_of;
 use crate::reply::Reply;
 use crate::reply::of_f64;
 use crate::reply::of_optional_f64;
@@ -9,8 +12,6 @@ use crate::reply::of_u32;
 use crate::reply::of_u64;
 use crate::reply::one;
 use crate::reply::refusal;
-use crate::srtt_calls::and_round_trip;
-use crate::srtt_calls::round_trip_of;
 use crate::tables::f64_of;
 use crate::tables::flag;
 use crate::tables::flag_of;
@@ -21,7 +22,6 @@ use crate::tables::optional_u32_of;
 use crate::tables::u32_of;
 use crate::tables::u64_of;
 use crate::tables::wide_u32;
-use crate::wire_calls::receiver_of;
 use metrics::AnswerCounters;
 use metrics::MetricsUpdate;
 use metrics::MmpMetrics;

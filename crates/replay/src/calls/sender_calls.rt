@@ -1,4 +1,5 @@
 // Calls 401 to 417: `SenderState`.
+use crate::calls::wire_calls::and_sender_report;
 use crate::reply::Reply;
 use crate::reply::of_bool;
 use crate::reply::of_f64;
@@ -12,7 +13,6 @@ use crate::tables::i64_of;
 use crate::tables::u32_of;
 use crate::tables::u64_of;
 use crate::tables::usize_of;
-use crate::wire_calls::and_sender_report;
 use sender::SenderNew;
 use sender::SenderState;
 use sender::SenderUpdate;

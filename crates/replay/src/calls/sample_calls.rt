@@ -1,6 +1,6 @@
 // Calls 461 to 467: the sampling half of a frame.
-use crate::owd_calls::and_detector;
-use crate::owd_calls::detector_of;
+use crate::calls::owd_calls::and_detector;
+use crate::calls::owd_calls::detector_of;
 use crate::reply::Reply;
 use crate::reply::one;
 use crate::reply::refusal;

@@ -1,18 +1,16 @@
 // The calls on windows: 333, 334, 338, 466, 467, 504, 505 and 507.
-use crate::owd_calls;
-use crate::receiver_calls;
+use crate::calls::owd_calls;
+use crate::calls::receiver_calls;
+use crate::calls::sample_calls;
+use crate::lent::delays_of;
+use crate::lent::lent_delays;
+use crate::lent::lent_times;
+use crate::lent::push_delays;
+use crate::lent::push_times;
+use crate::lent::times_of;
 use crate::reply::Reply;
-use crate::sample_calls;
 use crate::tables::after_bytes;
-use crate::tables::push;
 use crate::tables::u64_of;
-use crate::tables::wide;
-use crate::windows::delays_of;
-use crate::windows::lent_delays;
-use crate::windows::lent_times;
-use crate::windows::push_delays;
-use crate::windows::push_times;
-use crate::windows::times_of;
 
 // Where the times of a call's windows stand; the delays come behind them.
 fn windows_at(call: u64) -> usize {
@@ -63,8 +61,6 @@ fn reply_of(given: &[u64], times: &mut [u32], delays: &mut [i64]) -> Reply {
 
 // The windows after, each with its length.
 fn push_windows(answer: &mut [u64], n: usize, times: &[u32], delays: &[i64]) -> usize {
-    let m = push(answer, n, wide(times.len()));
-    let k = push_times(answer, m, times);
-    let j = push(answer, k, wide(delays.len()));
-    push_delays(answer, j, delays)
+    let m = push_times(answer, n, times);
+    push_delays(answer, m, delays)
 }

@@ -1,8 +1,9 @@
 // Calls 631 to 637: what one report says of a link.
+use crate::calls::srtt_calls::round_trip_of;
+use crate::calls::wire_calls::receiver_of;
 use crate::reply::Reply;
 use crate::reply::one;
 use crate::reply::two;
-use crate::srtt_calls::round_trip_of;
 use crate::tables::f64_of;
 use crate::tables::flag;
 use crate::tables::float_pattern;
@@ -11,7 +12,6 @@ use crate::tables::optional_of;
 use crate::tables::u32_of;
 use crate::tables::u64_of;
 use crate::tables::wide_u32;
-use crate::wire_calls::receiver_of;
 use figures::Counters;
 use figures::RoundTrip;
 use figures::delivery_ratio_unchecked;

@@ -1,9 +1,9 @@
 // Calls 101 to 112: `Reader`.
+use crate::lent::push_bytes;
+use crate::lent::push_span;
 use crate::reply::Reply;
 use crate::reply::one;
 use crate::tables::push;
-use crate::tables::push_buffer;
-use crate::tables::push_span;
 use crate::tables::u64_of;
 use crate::tables::usize_of;
 use crate::tables::wide;
@@ -103,7 +103,7 @@ pub fn of_array_8(r: ReadArray8) -> Reply {
 // The calls that answer a part of the payload.
 
 pub fn rest(given: &[u64], payload: &[u8], answer: &mut [u64]) -> usize {
-    push_buffer(answer, 0, at_place::rest(payload, place_of(given)))
+    push_bytes(answer, 0, at_place::rest(payload, place_of(given)))
 }
 
 pub fn read_bytes(given: &[u64], payload: &[u8], answer: &mut [u64]) -> usize {

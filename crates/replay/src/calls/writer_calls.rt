@@ -1,11 +1,11 @@
 // Calls 121 to 129: `Writer`.
-use crate::reader_calls::place_of;
+use crate::calls::reader_calls::place_of;
+use crate::lent::bytes_of;
+use crate::lent::first_bytes;
+use crate::lent::push_bytes;
 use crate::reply::Reply;
 use crate::reply::one;
 use crate::reply::refusal;
-use crate::tables::bytes_of;
-use crate::tables::first_bytes;
-use crate::tables::push_buffer;
 use crate::tables::u8_of;
 use crate::tables::u16_of;
 use crate::tables::u32_of;
@@ -53,5 +53,5 @@ fn write_bytes(given: &[u64], buffer: &mut [u8], at: Place) -> Written {
 
 // The call that answers a part of the buffer.
 pub fn into_vec(given: &[u64], buffer: &[u8], answer: &mut [u64]) -> usize {
-    push_buffer(answer, 0, writer::into_vec(buffer, place_of(given)))
+    push_bytes(answer, 0, writer::into_vec(buffer, place_of(given)))
 }
