@@ -22,11 +22,11 @@ use crate::table::store_number;
 use crate::table::word_at;
 use algorithms::ewma::DualEwma;
 use algorithms::srtt::SrttEstimator;
-use codec::fields::signed32;
 use metrics::MmpMetrics;
 use metrics::Outcome;
 use metrics::RrLog;
 use numbers::signs::signed;
+use numbers::signs::signed32;
 use wire::receiver_report::ReceiverReport;
 
 fn ewma_of(f: &[f64], from: usize, k: usize, initialized: bool) -> DualEwma {

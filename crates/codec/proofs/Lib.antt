@@ -2,4 +2,3 @@
 pub mod Widths
 pub mod Stores
 pub mod Lengths
-mod Signed

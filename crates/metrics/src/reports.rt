@@ -13,7 +13,7 @@ use figures::delivery_ratio_unchecked;
 use figures::goodput_after_unchecked;
 use figures::smoothed_ms_unchecked;
 use floats::one_minus;
-use numbers::saturating_sub;
+use numbers::methods::saturating_sub_u64;
 use refusals::option::OptionU32;
 use refusals::option::OptionU64;
 use wire::receiver_report::ReceiverReport;
@@ -110,8 +110,11 @@ impl MmpMetrics {
     fn deliver(self, rr: ReceiverReport) -> MmpMetrics
         ensures { λ r. ⌜ r ≡ delivered self rr ⌝ }
     {
-        let counter_span = saturating_sub(rr.highest_counter, self.prev_rr_highest_counter);
-        let packets_delta = saturating_sub(rr.cumulative_packets_recv, self.prev_rr_cum_packets);
+        let counter_span = saturating_sub_u64(rr.highest_counter, self.prev_rr_highest_counter);
+        let packets_delta = saturating_sub_u64(
+            rr.cumulative_packets_recv,
+            self.prev_rr_cum_packets,
+        );
         if self.has_prev_rr & (0 < counter_span) {
             let ratio = delivery_ratio_unchecked(packets_delta, counter_span);
             let loss_trend = self.loss_trend.update_unchecked(one_minus(ratio));
@@ -134,7 +137,7 @@ impl MmpMetrics {
         ensures { λ r. ⌜ r ≡ carried self rr «now_ms» ⌝ }
     {
         if self.has_prev_rr {
-            let bytes_delta = saturating_sub(rr.cumulative_bytes_recv, self.prev_rr_cum_bytes);
+            let bytes_delta = saturating_sub_u64(rr.cumulative_bytes_recv, self.prev_rr_cum_bytes);
             let goodput_trend = self.goodput_trend
                 .update_unchecked(floats::nearest_u64_to_f64(bytes_delta));
             let prev_rr_ms = self.prev_rr_ms;

@@ -3,14 +3,15 @@
 pub mod record; // frames/record.rt: the questions of a frame, and the frame recorded
 
 ghost use mathlib.Core.Path.{_≡_};
-ghost use Prim.Native.Nat.{_+_, _<_, _^_, max};
+ghost use Prim.Native.Nat.{_+_, _<_, _^_};
 ghost use lib.ListN.{set};
 ghost use Rattle.samples.specs.Delay.{ageOf, delayOf};
 ghost use Rattle.receiver.specs.Frames.{Room, reordersAfter, markedAfter, counted, countersOk, withTiming, measured, unmeasured, pushes, taken, slotFor, takenTimes, takenDelays};
 use crate::ReceiverState;
 use algorithms::jitter::JitterEstimator;
 use algorithms::owd::OwdTrendDetector;
-use numbers::saturating_add;
+use numbers::methods::max_u64;
+use numbers::methods::saturating_add_u32;
 use refusals::option::OptionU64;
 use refusals::ranges::counter_u64_ok;
 use samples::OwdReference;
@@ -31,18 +32,12 @@ fn reorders_after(reorders: u64, highest: u64, counter: u64) -> u64
     }
 }
 
-fn higher(a: u64, b: u64) -> u64
-    ensures { λ r. ⌜ r ≡ max a b ⌝ }
-{
-    if a < b { b } else { a }
-}
-
 // One more where the frame is marked CE.
 fn marked_after(count: u32, ce_flag: bool) -> u32
     ensures { λ r. ⌜ r ≡ markedAfter count «ce_flag» ⌝ }
 {
     if ce_flag {
-        saturating_add(count, 1)
+        saturating_add_u32(count, 1)
     } else {
         count
     }
@@ -61,10 +56,10 @@ impl ReceiverState {
         state.interval_has_data = true;
         state.cumulative_packets_recv = self.cumulative_packets_recv + 1;
         state.cumulative_bytes_recv = self.cumulative_bytes_recv + bytes as u64;
-        state.interval_packets_recv = saturating_add(self.interval_packets_recv, 1);
-        state.interval_bytes_recv = saturating_add(self.interval_bytes_recv, bytes);
+        state.interval_packets_recv = saturating_add_u32(self.interval_packets_recv, 1);
+        state.interval_bytes_recv = saturating_add_u32(self.interval_bytes_recv, bytes);
         state.cumulative_reorder_count = reorders;
-        state.highest_counter = higher(self.highest_counter, counter);
+        state.highest_counter = max_u64(self.highest_counter, counter);
         state.gap_tracker = gap_tracker;
         state.ecn_ce_count = marked_after(self.ecn_ce_count, ce_flag);
         state

@@ -6,8 +6,8 @@ use crate::ReceiverState;
 use crate::ReceiverUpdate;
 use numbers::intervals::floor_ms;
 use numbers::intervals::next_interval_ms;
-use numbers::saturating_add;
-use numbers::saturating_sub;
+use numbers::methods::saturating_add_u32;
+use numbers::methods::saturating_sub_u64;
 use numbers::signs::unsigned;
 use refusals::answer::AnswerBool;
 use refusals::option::OptionU64;
@@ -21,7 +21,7 @@ fn passed(last_report_ms: OptionU64, report_interval_ms: u64, now_ms: u64) -> bo
 {
     match last_report_ms {
         OptionU64::None => true,
-        OptionU64::Some(last) => report_interval_ms <= saturating_sub(now_ms, last),
+        OptionU64::Some(last) => report_interval_ms <= saturating_sub_u64(now_ms, last),
     }
 }
 
@@ -46,7 +46,7 @@ impl ReceiverState {
         q.round_trip = smoothed_ok(srtt_us);
         let refusal = q.first_no();
         if refusal == 0 {
-            let count = saturating_add(self.srtt_sample_count, 1);
+            let count = saturating_add_u32(self.srtt_sample_count, 1);
             let mut state = self.pace(srtt_us, floor_ms(count), limits::MAX_REPORT_INTERVAL_MS);
             state.srtt_sample_count = count;
             ReceiverUpdate { refusal, state }

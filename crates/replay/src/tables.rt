@@ -1,7 +1,7 @@
 // Tables of numbers and bytes. Every function is total: what lies past the end reads as 0, and what has no room is left out.
-use codec::fields::bits32;
-use codec::fields::signed32;
+use numbers::signs::bits32;
 use numbers::signs::signed;
+use numbers::signs::signed32;
 use numbers::signs::unsigned;
 use refusals::option::OptionU32;
 use refusals::option::OptionU64;

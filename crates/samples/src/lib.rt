@@ -14,9 +14,9 @@ ghost use Rattle.samples.specs.Delay.{referenceOk, restarts, younger, ba
 ghost use Rattle.samples.specs.Echo.{echoAfter, echoOf};
 use algorithms::jitter::JitterEstimator;
 use algorithms::owd::OwdTrendDetector;
-use codec::fields::signed32;
-use numbers::saturating_sub;
+use numbers::methods::saturating_sub_u64;
 use numbers::signs::signed;
+use numbers::signs::signed32;
 use refusals::option::OptionU64;
 use refusals::questions::Questions;
 use refusals::ranges::clock_ok;
@@ -85,7 +85,7 @@ pub fn jitter_after_unchecked(
     match last_recv_ms {
         OptionU64::None => jitter,
         OptionU64::Some(last) => {
-            let difference = transit(saturating_sub(now_ms, last), timestamp, last_timestamp);
+            let difference = transit(saturating_sub_u64(now_ms, last), timestamp, last_timestamp);
             jitter.update_unchecked(difference)
         }
     }
@@ -110,7 +110,7 @@ fn restarts(owd_ref: OwdReference, now_ms: u64) -> bool
     match owd_ref {
         OwdReference::None => false,
         OwdReference::Some(recv_ms, _timestamp) => {
-            OWD_REF_SPAN_MS <= saturating_sub(now_ms, recv_ms)
+            OWD_REF_SPAN_MS <= saturating_sub_u64(now_ms, recv_ms)
         }
     }
 }
@@ -119,7 +119,7 @@ fn restarts(owd_ref: OwdReference, now_ms: u64) -> bool
 fn younger(base: OwdBase, now_ms: u64, timestamp: u32) -> OwdBase
     ensures { λ r. ⌜ r ≡ younger base «now_ms» timestamp ⌝ }
 {
-    if OWD_REF_SPAN_MS <= saturating_sub(now_ms, base.recv_ms) {
+    if OWD_REF_SPAN_MS <= saturating_sub_u64(now_ms, base.recv_ms) {
         OwdBase {
             recv_ms: now_ms,
             sender_timestamp: timestamp,
@@ -204,7 +204,7 @@ pub fn sample_owd_unchecked(
     ensures delays { λ r. ⌜ now (delays .exit) ≡ set (now (delays .entry)) (free (windowFor window «owd_ref» «now_ms»)) (delayOf «owd_ref» timestamp «now_ms») ⌝ }
 {
     let base = base_of_unchecked(owd_ref, now_ms, timestamp);
-    let age = saturating_sub(now_ms, base.recv_ms);
+    let age = saturating_sub_u64(now_ms, base.recv_ms);
     let word = sent_word(timestamp, base.sender_timestamp);
     let us = delay_us(age, word);
     let live = window_for(window, owd_ref, now_ms);
@@ -277,6 +277,6 @@ pub fn echo_of_unchecked(last_recv_ms: OptionU64, timestamp: u32, now_ms: u64) -
             timestamp_echo: 0,
             dwell_time: 0,
         },
-        OptionU64::Some(last) => echo_after(timestamp, saturating_sub(now_ms, last)),
+        OptionU64::Some(last) => echo_after(timestamp, saturating_sub_u64(now_ms, last)),
     }
 }

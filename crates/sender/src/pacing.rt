@@ -6,7 +6,7 @@ use crate::SenderState;
 use crate::SenderUpdate;
 use numbers::intervals::floor_ms;
 use numbers::intervals::next_interval_ms;
-use numbers::saturating_add;
+use numbers::methods::saturating_add_u32;
 use numbers::signs::unsigned;
 use refusals::questions::Questions;
 use refusals::ranges::clock_ok;
@@ -33,7 +33,7 @@ impl SenderState {
         q.round_trip = smoothed_ok(srtt_us);
         let refusal = q.first_no();
         if refusal == 0 {
-            let count = saturating_add(self.srtt_sample_count, 1);
+            let count = saturating_add_u32(self.srtt_sample_count, 1);
             let mut state = self.pace(srtt_us, floor_ms(count), limits::MAX_REPORT_INTERVAL_MS);
             state.srtt_sample_count = count;
             SenderUpdate { refusal, state }

@@ -6,7 +6,7 @@ ghost use Rattle.refusals.specs.Ranges.{maxClock};
 ghost use Rattle.sender.specs.Reports.{reportOf, noneBuilt, built, builtOf, isDue, shouldSendOf};
 use crate::SenderState;
 use crate::backoff::backoff_of;
-use numbers::saturating_sub;
+use numbers::methods::saturating_sub_u64;
 use refusals::answer::AnswerBool;
 use refusals::questions::Questions;
 use refusals::ranges::clock_ok;
@@ -92,7 +92,7 @@ impl SenderState {
         ensures { λ r. ⌜ r ≡ isDue self «now_ms» ⌝ }
     {
         let effective_ms = self.report_interval_ms * backoff_of(self.consecutive_send_failures);
-        let since_ms = saturating_sub(now_ms, self.last_report_ms);
+        let since_ms = saturating_sub_u64(now_ms, self.last_report_ms);
         self.interval_has_data & (!self.has_last_report | (effective_ms <= since_ms))
     }
 

@@ -13,6 +13,8 @@ use crate::tables::wide_u8;
 use crate::tables::wide_u16;
 use crate::tables::wide_u32;
 use codec::fields;
+use numbers::signs::bits32;
+use numbers::signs::signed32;
 
 pub fn answer(given: &[u64], buffer: &mut [u8]) -> Reply {
     match u64_of(given, 0) {
@@ -30,8 +32,8 @@ fn field(given: &[u64], s: &[u8]) -> u64 {
         144 => fields::u64_at(s, at),
         145 => pattern(fields::i32_at(s, at)),
         146 => wide(fields::left_at(s, at)),
-        147 => pattern(fields::signed32(u32_of(given, 1))),
-        _ => wide_u32(fields::bits32(i32_of(given, 1))),
+        147 => pattern(signed32(u32_of(given, 1))),
+        _ => wide_u32(bits32(i32_of(given, 1))),
     }
 }
 

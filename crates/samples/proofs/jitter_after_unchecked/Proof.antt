@@ -10,7 +10,7 @@ use Rattle.samples.proofs.jitter_after_unchecked.Tie as tie
 later : tie.Need-returns-2
 later c =
     let a = c .before .before .before .before .before .before .args in
-    rw (c .update-unchecked .ensures, toZ-ofZ {w = w32} {z = c .before .transit .result} (record { sfits = c .before .transit .ok }), c .before .transit .ensures, c .before .before .saturating-sub .ensures)
+    rw (c .update-unchecked .ensures, toZ-ofZ {w = w32} {z = c .before .transit .result} (record { sfits = c .before .transit .ok }), c .before .transit .ensures, c .before .before .saturating-sub-u64 .ensures)
     (sym (ap (λ o. jitterAfter (a .jitter) o (a .last-timestamp) (a .timestamp) (a .now-ms)) (c .before .before .before .before .last-recv-ms .given .1)))
 
 pub jitter-after-unchecked-spec : {M : Type 1} → statement M

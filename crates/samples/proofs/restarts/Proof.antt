@@ -4,7 +4,7 @@ use Rattle.samples.proofs.restarts.Statement.{statement}
 use Rattle.samples.proofs.restarts.Tie as tie
 
 some : tie.Need-returns-2
-some c = rw (c .before .before .owd-ref .given .1, c .saturating-sub .ensures)
+some c = rw (c .before .before .owd-ref .given .1, c .saturating-sub-u64 .ensures)
 
 pub restarts-spec : {M : Type 1} → statement M
 restarts-spec = tie.close (tie.spec (λ c. search needs) (λ c. search needs) (λ c κs. tt) (λ c. search needs) some)

@@ -13,9 +13,9 @@ use Rattle.samples.proofs.sample_owd_unchecked.Statement.{statement}
 use Rattle.samples.proofs.sample_owd_unchecked.Tie as tie
 
 -- the age is the reference's
-aged : (c : tie.After-saturating-sub) → let a = c .before .before .before .args in c .saturating-sub .result ≡ ageOf (a .owd-ref) (a .timestamp) (a .now-ms)
+aged : (c : tie.After-saturating-sub-u64) → let a = c .before .before .before .args in c .saturating-sub-u64 .result ≡ ageOf (a .owd-ref) (a .timestamp) (a .now-ms)
 unfolding ageOf
-aged c = rw (c .saturating-sub .ensures, c .before .base-of-unchecked .ensures)
+aged c = rw (c .saturating-sub-u64 .ensures, c .before .base-of-unchecked .ensures)
 
 within : tie.Need-delay-us-requires
 within c κs =

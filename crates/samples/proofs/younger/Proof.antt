@@ -8,11 +8,11 @@ use Rattle.samples.proofs.younger.Tie as tie
 
 old : tie.Need-returns
 unfolding younger
-old c = yes _ (le-leb span _ (rw (c .before .saturating-sub .ensures) at (c .if1 .taken))) refl
+old c = yes _ (le-leb span _ (rw (c .before .saturating-sub-u64 .ensures) at (c .if1 .taken))) refl
 
 young : tie.Need-returns-2
 unfolding younger
-young c = no _ (lt-leb span _ (rw (c .before .saturating-sub .ensures) at (c .if1 .left))) refl
+young c = no _ (lt-leb span _ (rw (c .before .saturating-sub-u64 .ensures) at (c .if1 .left))) refl
 
 pub younger-spec : {M : Type 1} → statement M
 younger-spec = tie.close (tie.spec (λ c κs. tt) old young)

@@ -8,7 +8,7 @@ use Rattle.gaps.proofs.GapTracker.finish_burst_unchecked.Tie as tie
 
 underway : tie.Need-returns
 unfolding closed
-underway c = yes _ (c .before .before .if1 .taken) (rw (c .saturating-add-u64 .ensures, c .before .longer .ensures))
+underway c = yes _ (c .before .before .if1 .taken) (rw (c .saturating-add-u64 .ensures, c .before .max-u16 .ensures))
 
 shut : tie.Need-returns-2
 unfolding closed

@@ -10,7 +10,7 @@ longer c = yes _ (c .before .if1 .taken) (rw (c .saturating-add-u16 .ensures, c 
 
 begun : tie.Need-returns-2
 unfolding missed
-begun c = no _ (c .before .if1 .left) (rw (c .saturating-add .ensures, c .before .before .low-bits .ensures))
+begun c = no _ (c .before .if1 .left) (rw (c .saturating-add-u32 .ensures, c .before .before .low-bits .ensures))
 
 pub missed-spec : {M : Type 1} → statement M
 missed-spec = tie.close (tie.spec (λ c κs. tt) (λ c κs. tt) longer (λ c κs. tt) begun)

@@ -9,7 +9,7 @@ moved : tie.Need-returns
 unfolding carried
 moved c =
     let b = c .before .before in
-    rw (c .goodput-after-unchecked .ensures, c .before .update-unchecked .ensures, b .nearest-u64-to-f64 .ensures, b .before .saturating-sub .ensures)
+    rw (c .goodput-after-unchecked .ensures, c .before .update-unchecked .ensures, b .nearest-u64-to-f64 .ensures, b .before .saturating-sub-u64 .ensures)
     (yes _ (b .before .before .if1 .taken) refl)
 
 left : tie.Need-returns-2

@@ -16,14 +16,14 @@ moved c =
       c .before .before .update-unchecked .ensures,
       c .before .before .before .one-minus .ensures,
       c .before .before .before .before .delivery-ratio-unchecked .ensures,
-      s .saturating-sub2 .ensures,
-      s .before .saturating-sub .ensures,
+      s .saturating-sub-u642 .ensures,
+      s .before .saturating-sub-u64 .ensures,
     )
-    (yes _ (rw (s .before .saturating-sub .ensures) at (i .if1 .taken)) refl)
+    (yes _ (rw (s .before .saturating-sub-u64 .ensures) at (i .if1 .taken)) refl)
 
 left : tie.Need-returns-2
 unfolding delivered
-left c = no _ (rw (c .before .before .before .saturating-sub .ensures) at (c .if1 .left)) refl
+left c = no _ (rw (c .before .before .before .saturating-sub-u64 .ensures) at (c .if1 .left)) refl
 
 pub deliver-spec : {M : Type 1} → statement M
 deliver-spec = tie.close (tie.spec (λ c κs. tt) (λ c κs. tt) (λ c κs. tt) (λ c κs. tt) (λ c κs. tt) (λ c κs. tt) (λ c κs. tt) moved left)

@@ -27,7 +27,7 @@ accepted c =
       c .pace .ensures,
       toZ-ofZ {w = w64} (b .before .before .before .before .fits .srtt-us),
       c .before .floor-ms .ensures,
-      c .before .before .saturating-add .ensures,
+      c .before .before .saturating-add-u32 .ensures,
       gate b,
       eq-eqb _ 0 (sym (gate b) ∙ c .before .before .before .if1 .taken),
     )

@@ -7,7 +7,7 @@ use Rattle.receiver.proofs.frames.marked_after.Tie as tie
 
 marked : tie.Need-returns
 unfolding markedAfter
-marked c = yes _ (c .before .if1 .taken) (c .saturating-add .ensures)
+marked c = yes _ (c .before .if1 .taken) (c .saturating-add-u32 .ensures)
 
 unmarked : tie.Need-returns-2
 unfolding markedAfter

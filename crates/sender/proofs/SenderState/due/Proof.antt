@@ -13,7 +13,7 @@ fits c = record { fits = rw (c .before .backoff-of .ensures) (omega (arith, mul-
 
 returns : tie.Need-returns
 unfolding isDue
-returns c = rw (c .before .before .saturating-sub .ensures, c .before .before .before .before .backoff-of .ensures)
+returns c = rw (c .before .before .saturating-sub-u64 .ensures, c .before .before .before .before .backoff-of .ensures)
 
 pub due-spec : {M : Type 1} → statement M
 due-spec = tie.close (tie.spec (λ c κs. tt) fits (λ c κs. tt) returns)

@@ -24,7 +24,7 @@ unmoved field s counter timestamp e = go (s .«interval_has_data»)
     go true = refl
     go false = e
 
-cast : tie.Need-cast-saturating-add
+cast : tie.Need-cast-saturating-add-u32
 cast c = record { fits = omega (arith, answered (c .before) .size) }
 
 add-packets : tie.Need-add-state
@@ -46,7 +46,7 @@ unfolding sentOf sent
 accepted c =
     let gate = c .before .before .before .before .before .sent-refusal .ensures in
     simp (
-      c .before .before .saturating-add .ensures,
+      c .before .before .saturating-add-u32 .ensures,
       c .before .before .before .«open» .ensures,
       gate,
       eq-eqb _ 0 (sym gate ∙ c .before .before .before .before .if1 .taken),
