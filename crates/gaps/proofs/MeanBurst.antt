@@ -20,10 +20,10 @@ use Rattle.floats.proofs.Products.{mul-at}
 use Rattle.floats.proofs.Quotients.{div-is}
 use Rattle.floats.proofs.Casts.{cast-unsigned}
 use Rattle.floats.specs.Operations.{rounded-quotient}
-use Rattle.gaps.specs.Gaps.{maxLength, keepsRule, Fits, closed}
+use Rattle.gaps.specs.Gaps.{maxLength, keepsRule, closed}
 use Rattle.gaps.specs.Stats.{meanBurst, floatRoute, statsOf}
 use Rattle.gaps.specs.declared.GapTracker.{GapTracker}
-use Rattle.gaps.proofs.RuleKept.{kept, closed-kept, closed-outside, finished-outside}
+use Rattle.gaps.proofs.RuleKept.{Fits, kept, closed-kept, closed-outside, finished-outside}
 
 -- ---- in whole numbers: a quotient below n / 256, of a count of at most 2 ^ 32, is below it by 2 ^ -40 at least
 wide-enough : (t c n K : ℕ) → K ≡ 2 ^ 32 → c ≤ 2 ^ 32 → t * 256 + 1 ≤ n * c → t * 1 * 2 ^ 40 ≤ (n * K - 1) * (c * 1)

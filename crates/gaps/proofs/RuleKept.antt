@@ -7,20 +7,23 @@ use native.Mathlib.Omega.{arith}
 use lib.Dec.{leb, eqb}
 use borrow.Author.Tests.{leb-true, le-leb, eqb-true, eqb-false, eq-eqb, ltb-true, not-false}
 use Rattle.refusals.specs.Ranges.{counterOk}
+use Rattle.refusals.proofs.Clauses.{either, or}
 use Rattle.refusals.specs.declared.option.OptionU64.{OptionU64}
 use Rattle.refusals.specs.declared.option.OptionU64.the-variants.{None, Some}
-use Rattle.gaps.specs.Gaps.{maxLength, maxCounter, finishedBursts, keepsRule, Kept, Fits, fresh, gapAt, beginsBurst, burstsOk, nextAfter, expecting, burst, ended, closed, missed, moved, observedAfter, observed}
+use Rattle.gaps.specs.Gaps.{maxLength, maxCounter, finishedBursts, keepsRule, fresh, gapAt, beginsBurst, burstsOk, nextAfter, expecting, burst, ended, closed, missed, moved, observedAfter, observed}
 use Rattle.gaps.specs.Stats.{statsOf}
 use Rattle.gaps.specs.declared.GapTracker.{GapTracker}
 
 -- ---- the rule by its clauses
-either : (a b : Bool) → (a || b) ≡ true → a ≡ false → b ≡ true
-either true b h e = absurd (true≢false e)
-either false b h e = h
+-- the rule's clauses by name
+pub record Kept (t : GapTracker) : Type 0 where
+  pub outside : t .«in_burst» ≡ false → t .«current_burst_len» ≡ 0
+  pub inside : t .«in_burst» ≡ true → 1 ≤ t .«burst_count»
+  pub total : t .«total_burst_len» ≤ maxLength * finishedBursts t
 
-or : (a b : Bool) → (a ≡ false → b ≡ true) → (a || b) ≡ true
-or true b h = refl
-or false b h = h refl
+-- what the type of the current length keeps
+abbrev pub Fits : GapTracker → Type 0
+Fits t = t .«current_burst_len» ≤ maxLength
 
 pub kept : (t : GapTracker) → keepsRule t ≡ true → Kept t
 unfolding keepsRule

@@ -1,7 +1,6 @@
 -- Gaps in the counters as bursts of lost frames: document 01, "Jitter, delay trend and bursts", and receiver.rs, `GapTracker`. Definitions only.
 use mathlib.Core.Bool.{Bool, true, false, cond, not, _&&_, _||_}
-use Prim.Native.Nat.{ℕ, _+_, _-_, _*_, _%_, _≤_, min, max}
-use mathlib.Core.Path.{_≡_}
+use Prim.Native.Nat.{ℕ, _+_, _-_, _*_, _%_, min, max}
 use lib.Dec.{leb, eqb}
 use Rattle.refusals.specs.Ranges.{counterOk}
 use Rattle.refusals.specs.declared.option.OptionU64.{OptionU64}
@@ -26,16 +25,6 @@ finishedBursts t = cond (t .«in_burst») (t .«burst_count» - 1) (t .«burst_c
 unfoldable pub keepsRule : GapTracker → Bool
 keepsRule t =
     (t .«in_burst» || eqb (t .«current_burst_len») 0) && (not (t .«in_burst») || leb 1 (t .«burst_count»)) && leb (t .«total_burst_len») (maxLength * finishedBursts t)
-
--- the rule's clauses by name
-pub record Kept (t : GapTracker) : Type 0 where
-  pub outside : t .«in_burst» ≡ false → t .«current_burst_len» ≡ 0
-  pub inside : t .«in_burst» ≡ true → 1 ≤ t .«burst_count»
-  pub total : t .«total_burst_len» ≤ maxLength * finishedBursts t
-
--- what the type of the current length keeps
-abbrev pub Fits : GapTracker → Type 0
-Fits t = t .«current_burst_len» ≤ maxLength
 
 -- no frame yet
 abbrev pub fresh : GapTracker

@@ -2,7 +2,7 @@
 use mathlib.Core.Path.{_≡_}
 use mathlib.Core.Bool.{Bool, true, false, cond, _&&_}
 use mathlib.Core.List.{[], _∷_}
-use Prim.Native.Nat.{ℕ, _+_}
+use Prim.Native.Nat.{ℕ, _+_, _≤_}
 use lib.Dec.{eqb, leb}
 use Rattle.refusals.specs.Answers.{answerU32, answerU64, answerOptionU64}
 use Rattle.refusals.specs.Questions.{question, firstNo}
@@ -61,7 +61,7 @@ pub record Kept (s : ReceiverState) : Type 0 where
 
 -- what the type of the length of the burst under way keeps
 abbrev pub Fits : ReceiverState → Type 0
-Fits s = gaps.Fits (s .«gap_tracker»)
+Fits s = s .«gap_tracker» .«current_burst_len» ≤ gaps.maxLength
 
 -- ---- a new record
 -- nothing received, with a window and a first report interval
