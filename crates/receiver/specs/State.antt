@@ -16,7 +16,7 @@ use Rattle.algorithms.specs.Jitter as jitters
 use Rattle.algorithms.specs.Owd as owds
 use Rattle.gaps.specs.Gaps as gaps
 use Rattle.samples.specs.Delay.{referenceOk}
-use Rattle.samples.specs.declared.OwdReference.the-variants as reference
+use Rattle.samples.specs.declared.delay.OwdReference.the-variants as reference
 use Rattle.receiver.specs.declared.ReceiverState.{ReceiverState}
 use Rattle.receiver.specs.declared.ReceiverNew.{ReceiverNew}
 use Rattle.receiver.specs.declared.ReceiverUpdate.{ReceiverUpdate}
