@@ -1,4 +1,4 @@
--- `reader::reports::receiver_report_at` meets its contract. Assumes nothing.
+-- `reader::reports::decode_receiver_report_at` meets its contract. Assumes nothing.
 use borrow.Author.Needs.{needs}
 use native.Mathlib.Omega.{arith}
 use mathlib.Core.Path.{sym, ap, _∙_}
@@ -8,8 +8,8 @@ use Rattle.codec.proofs.Lengths.{room, short-lengths}
 use Rattle.wire.specs.ReceiverReport.{reportIn, decodedBy, accepted}
 use Rattle.reader.specs.Reports.{receiverAt}
 use Rattle.reader.proofs.DecodedFromPosition.{part-whole}
-use Rattle.reader.proofs.reports.receiver_report_at.Statement.{statement}
-use Rattle.reader.proofs.reports.receiver_report_at.Tie as tie
+use Rattle.reader.proofs.reports.decode_receiver_report_at.Statement.{statement}
+use Rattle.reader.proofs.reports.decode_receiver_report_at.Tie as tie
 
 returns : tie.Need-returns
 unfolding receiverAt decodedBy valuesOf byLength
@@ -31,5 +31,5 @@ returns-2 c =
     let a = c .before .before .before .before .before .before .args in
     rw (sym (c .before .before .before .before .require .ensures) ∙ c .before .before .enum-told .given .1) (ap accepted (c .report-in .ensures ∙ ap reportIn (part-whole (a .s .now) (a .pos))))
 
-pub receiver-report-at-spec : {M : Type 1} → statement M
-receiver-report-at-spec = tie.close (tie.spec (λ c κs. search needs) (λ c. search needs) (λ c. search needs) (λ c κs. search needs) (λ c κs. search needs) returns sub-report-in part-report-in-start (λ c. search needs) (λ c κs. search needs) returns-2)
+pub decode-receiver-report-at-spec : {M : Type 1} → statement M
+decode-receiver-report-at-spec = tie.close (tie.spec (λ c κs. search needs) (λ c. search needs) (λ c. search needs) (λ c κs. search needs) (λ c κs. search needs) returns sub-report-in part-report-in-start (λ c. search needs) (λ c κs. search needs) returns-2)
