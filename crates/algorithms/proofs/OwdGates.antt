@@ -8,9 +8,9 @@ use lib.Dec.{eqb}
 use lib.IntN.{ℤ}
 use lib.ListN.{length, set}
 use borrow.Author.Tests.{eqb-true, ne-eqb}
-use Rattle.refusals.specs.Questions.{question, EachYes}
+use Rattle.refusals.specs.Questions.{question}
 use Rattle.refusals.specs.Ranges.{delayOk}
-use Rattle.refusals.proofs.FirstNoFound.{each-yes}
+use Rattle.refusals.proofs.FirstNoFound.{EachYes, each-yes}
 use Rattle.algorithms.specs.Owd.{keepsRule, Lent, windowsOk, update, free, stored, pushRefusal}
 use Rattle.algorithms.specs.declared.owd.OwdTrendDetector.{OwdTrendDetector}
 use Rattle.algorithms.specs.declared.owd.OwdUpdate.{OwdUpdate}

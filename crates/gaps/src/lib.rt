@@ -3,8 +3,7 @@
 pub mod checked; // checked.rt: the calls behind their questions
 
 ghost use mathlib.Core.Path.{_≡_};
-ghost use Prim.Native.Nat.{_%_};
-ghost use Rattle.gaps.specs.Gaps.{keepsRule, finishedBursts, fresh, gapAt, beginsBurst, burstsOk, expecting, nextAfter, closed, missed, moved, observed};
+ghost use Rattle.gaps.specs.Gaps.{keepsRule, finishedBursts, fresh, gapAt, beginsBurst, burstsOk, expecting, nextAfter, burstFinished, gapLength, gapCounted, gapObserved, observed};
 ghost use Rattle.gaps.specs.Stats.{meanBurst, statsOf};
 use numbers::methods::max_u16;
 use numbers::methods::saturating_add_u16;
@@ -49,8 +48,8 @@ pub struct IntervalStats {
 }
 
 // Rust's `gap as u16`.
-fn low_bits(gap: u64) -> u16
-    ensures { λ r. ⌜ r ≡ gap % 65536 ⌝ }
+fn gap_len(gap: u64) -> u16
+    ensures { λ r. ⌜ r ≡ gapLength gap ⌝ }
 {
     (gap % 65_536) as u16
 }
@@ -156,7 +155,7 @@ impl GapTracker {
 
     // Finish the current burst and record its stats.
     pub fn finish_burst_unchecked(self) -> GapTracker
-        ensures { λ r. ⌜ r ≡ closed self ⌝ }
+        ensures { λ r. ⌜ r ≡ burstFinished self ⌝ }
     {
         if self.in_burst {
             let len = self.current_burst_len;
@@ -171,10 +170,10 @@ impl GapTracker {
     }
 
     // A gap begins a burst, or extends the one under way.
-    fn missed(self, gap: u64) -> GapTracker
-        ensures { λ r. ⌜ r ≡ missed self gap ⌝ }
+    fn count_gap(self, gap: u64) -> GapTracker
+        ensures { λ r. ⌜ r ≡ gapCounted self gap ⌝ }
     {
-        let len = low_bits(gap);
+        let len = gap_len(gap);
         let mut t = self;
         if self.in_burst {
             t.current_burst_len = saturating_add_u16(self.current_burst_len, len);
@@ -187,13 +186,13 @@ impl GapTracker {
     }
 
     // A frame in order ends a burst.
-    fn moved(self, gap: u64) -> GapTracker
-        ensures { λ r. ⌜ r ≡ moved self gap ⌝ }
+    fn observe_gap(self, gap: u64) -> GapTracker
+        ensures { λ r. ⌜ r ≡ gapObserved self gap ⌝ }
     {
         if gap == 0 {
             self.finish_burst_unchecked()
         } else {
-            self.missed(gap)
+            self.count_gap(gap)
         }
     }
 
@@ -210,7 +209,7 @@ impl GapTracker {
             OptionU64::Some(expected) => {
                 let lost = saturating_sub_u64(counter, expected);
                 let next = next_after(expected, counter);
-                let tracker = self.moved(lost).expecting(next);
+                let tracker = self.observe_gap(lost).expecting(next);
                 Observed { lost, tracker }
             }
         }

@@ -8,9 +8,9 @@ use native.Mathlib.Omega.{arith}
 use lib.Dec.{eqb}
 use lib.IntN.{ℤ, natAbs}
 use borrow.Author.Tests.{eqb-true}
-use Rattle.numbers.specs.Jitter.{jitterStep, scaledOf, reported, ReportedNear}
+use Rattle.numbers.specs.Jitter.{jitterStep, scaledOf, reported}
 use Rattle.numbers.specs.Signs.{asUnsigned}
-use Rattle.numbers.proofs.JitterStaysNear.{reported-of-near}
+use Rattle.numbers.proofs.JitterStaysNear.{ReportedNear, reported-of-near}
 use Rattle.refusals.specs.Questions.{question}
 use Rattle.refusals.specs.declared.option.OptionU64.{OptionU64}
 use Rattle.refusals.specs.declared.option.OptionU64.the-variants.{None, Some}

@@ -7,9 +7,10 @@ use Prim.Native.Nat.{ℕ, zero, suc, _+_, _^_, _<_}
 use native.Mathlib.Omega.{arith}
 use lib.IntN.{ℤ, pos, negsuc}
 use lib.Ieee.{Float, binary64, le, ofInt}
-use Rattle.numbers.specs.Jitter.{JitterAverage, ReportedNear}
+use Rattle.numbers.specs.Jitter.{JitterAverage}
 use Rattle.numbers.specs.RoundTrip.{Estimate, averageOf, estimateOf, SmoothedAbove, VariationWithin}
 use Rattle.numbers.specs.Bounds.{smoothedBound, variationBound}
+use Rattle.numbers.proofs.JitterStaysNear.{ReportedNear}
 use Rattle.numbers.proofs.RoundTripStaysTied.{smoothed-milliseconds, variation-milliseconds}
 use Rattle.refusals.proofs.Clauses.{left, right}
 use Rattle.refusals.specs.Ranges.{ratioOk, etxOk}

@@ -1,7 +1,7 @@
 -- What the joined tests of a report show of each question.
 -- Assumes nothing.
 use mathlib.Core.Path.{_≡_, refl, sym, _∙_}
-use mathlib.Core.Bool.{Bool, true, not, _&&_, and-eq-true-iff}
+use mathlib.Core.Bool.{Bool, true, not, _&&_}
 use mathlib.Core.List.{[], _∷_}
 use Prim.Native.Nat.{ℕ, _+_, _^_}
 use native.Mathlib.Omega.{arith}
@@ -18,6 +18,7 @@ use Rattle.floats.proofs.Ranges.{within→in-range}
 use Rattle.floats.proofs.SumsGrow.{addends-within, sum-not-negative, addends-numbers, lesser-number, lesser-not-negative}
 use Rattle.refusals.specs.Questions.{question}
 use Rattle.refusals.specs.Ranges.{maxClock, maxTrend, maxEtx, clockOk, optionalClockOk, roundTripOk, counterOk}
+use Rattle.refusals.proofs.Clauses.{both}
 use Rattle.refusals.proofs.FirstNoFound.{none-refuses}
 use Rattle.algorithms.specs.Ewma as ewma
 use Rattle.algorithms.specs.Srtt as estimator
@@ -27,9 +28,6 @@ use Rattle.figures.specs.RoundTrips.{talliesOk}
 use Rattle.metrics.specs.State.{trendsOk, ratiosOk, keepsRule}
 use Rattle.metrics.specs.Reports.{processRefusal}
 use Rattle.metrics.specs.declared.MmpMetrics.{MmpMetrics}
-
-both : (a b : Bool) → (a && b) ≡ true → (a ≡ true) × (b ≡ true)
-both a b h = and-eq-true-iff a b .0 h
 
 -- ---- five floats: their sum, and the least of them
 abbrev sum : Float → Float → Float → Float → Float → Float

@@ -1,7 +1,7 @@
 -- What a frame that nothing refuses knows of its record and its arguments, and that counting moves nothing that the windows hang on.
 -- Assumes nothing.
 use mathlib.Core.Path.{_≡_, refl}
-use mathlib.Core.Bool.{Bool, true, false, not, _&&_, _||_, and-eq-true-iff}
+use mathlib.Core.Bool.{Bool, true, not, _&&_, and-eq-true-iff, or-true}
 use mathlib.Core.List.{List, [], _∷_}
 use Prim.Native.Nat.{ℕ, _+_, _^_, _≤_}
 use native.Mathlib.Omega.{arith}
@@ -61,13 +61,9 @@ frame-asked s times delays counter timestamp bytes now sampled h =
       bursts = all .1;
     }
 
-or-yes : (b : Bool) → (b || true) ≡ true
-or-yes true = refl
-or-yes false = refl
-
 -- the sample that a frame pushes is in range, whatever the record, the timestamp and the clock
 pub sample-in-range : (s : ReceiverState) (timestamp now : ℕ) (sampled : Bool) → sampleOk s timestamp now sampled ≡ true
-sample-in-range s timestamp now sampled = rw (delay-in-range (s .«owd_ref») timestamp now) (or-yes (not (pushes s now sampled)))
+sample-in-range s timestamp now sampled = rw (delay-in-range (s .«owd_ref») timestamp now) (or-true (not (pushes s now sampled)))
 
 -- so that question 5 can be left out: the number of the first no is the same
 pub delay-question-left-out : (s : ReceiverState) (times : List ℕ) (delays : List ℤ) (counter timestamp bytes now : ℕ) (sampled : Bool)

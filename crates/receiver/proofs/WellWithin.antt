@@ -1,7 +1,7 @@
 -- What the joined tests of a frame show of each question.
 -- Assumes nothing.
 use mathlib.Core.Path.{_≡_, refl, sym, _∙_}
-use mathlib.Core.Bool.{Bool, true, false, not, _&&_, _||_, and-eq-true-iff}
+use mathlib.Core.Bool.{true, false, not, _&&_}
 use mathlib.Core.List.{[], _∷_}
 use Prim.Native.Nat.{ℕ, _+_, _*_, _^_}
 use native.Mathlib.Omega.{arith}
@@ -11,6 +11,7 @@ use Rattle.refusals.specs.Questions.{question, firstNo}
 use Rattle.refusals.specs.Ranges.{maxClock, maxFrame, clockOk, optionalClockOk, frameSizeOk, counterOk}
 use Rattle.refusals.specs.declared.option.OptionU64.{OptionU64}
 use Rattle.refusals.specs.declared.option.OptionU64.the-variants.{None, Some}
+use Rattle.refusals.proofs.Clauses.{both, or}
 use Rattle.refusals.proofs.FirstNoFound.{none-refuses}
 use Rattle.algorithms.specs.Jitter as jitters
 use Rattle.algorithms.specs.Owd as owds
@@ -25,9 +26,6 @@ use Rattle.receiver.specs.State.{grace, graceOk, reordersOk, keepsRule}
 use Rattle.receiver.specs.Frames.{countersOk}
 use Rattle.receiver.specs.declared.ReceiverState.{ReceiverState}
 use Rattle.receiver.proofs.QuestionsAnswered.{keeps}
-
-both : (a b : Bool) → (a && b) ≡ true → (a ≡ true) × (b ≡ true)
-both a b h = and-eq-true-iff a b .0 h
 
 -- ---- the clocks
 -- 2^42 ms
@@ -150,10 +148,6 @@ counts-low s bytes h =
     )
 
 -- ---- all of them
-or-yes : (a b : Bool) → b ≡ true → (a || b) ≡ true
-or-yes true b h = refl
-or-yes false b h = h
-
 pub all-answered : (s : ReceiverState) (times delays bytes now : ℕ) → Clocks s now → jitters.keepsRule (s .jitter) ≡ true
     → (owds.keepsRule (s .«owd_trend») ≡ true) × (windowsOk (s .«owd_trend») times delays ≡ true) → Counts s bytes → (counter : ℕ)
     → firstNo (
@@ -178,7 +172,7 @@ all-answered s times delays bytes now c j w n counter =
       tracker = n .0;
       reorders = n .1;
     }) in
-    let bursts = or-yes (not (beginsBurst (s .«gap_tracker») counter)) (counterOk 32 (s .«gap_tracker» .«burst_count») 1) (n .5) in
+    let bursts = or (not (beginsBurst (s .«gap_tracker») counter)) (counterOk 32 (s .«gap_tracker» .«burst_count») 1) (λ e. n .5) in
     none-refuses (
     question 1 (keepsRule s)
     ∷ question 2 (clockOk now)

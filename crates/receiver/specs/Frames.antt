@@ -15,7 +15,7 @@ use Rattle.algorithms.specs.declared.owd.OwdTrendDetector.{OwdTrendDetector}
 use Rattle.gaps.specs.Gaps.{burstsOk, observed}
 use Rattle.samples.specs.Transit.{inGrace, jitterAfter}
 use Rattle.samples.specs.Delay.{referenceAfter, ageOf, delayOf, windowFor, pushed}
-use Rattle.samples.specs.declared.OwdReference.{OwdReference}
+use Rattle.samples.specs.declared.delay.OwdReference.{OwdReference}
 use Rattle.receiver.specs.State.{keepsRule, updated}
 use Rattle.receiver.specs.declared.ReceiverState.{ReceiverState}
 use Rattle.receiver.specs.declared.ReceiverUpdate.{ReceiverUpdate}

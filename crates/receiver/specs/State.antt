@@ -2,7 +2,7 @@
 use mathlib.Core.Path.{_≡_}
 use mathlib.Core.Bool.{Bool, true, false, cond, _&&_}
 use mathlib.Core.List.{[], _∷_}
-use Prim.Native.Nat.{ℕ, _+_}
+use Prim.Native.Nat.{ℕ, _+_, _≤_}
 use lib.Dec.{eqb, leb}
 use Rattle.refusals.specs.Answers.{answerU32, answerU64, answerOptionU64}
 use Rattle.refusals.specs.Questions.{question, firstNo}
@@ -16,7 +16,7 @@ use Rattle.algorithms.specs.Jitter as jitters
 use Rattle.algorithms.specs.Owd as owds
 use Rattle.gaps.specs.Gaps as gaps
 use Rattle.samples.specs.Delay.{referenceOk}
-use Rattle.samples.specs.declared.OwdReference.the-variants as reference
+use Rattle.samples.specs.declared.delay.OwdReference.the-variants as reference
 use Rattle.receiver.specs.declared.ReceiverState.{ReceiverState}
 use Rattle.receiver.specs.declared.ReceiverNew.{ReceiverNew}
 use Rattle.receiver.specs.declared.ReceiverUpdate.{ReceiverUpdate}
@@ -61,7 +61,7 @@ pub record Kept (s : ReceiverState) : Type 0 where
 
 -- what the type of the length of the burst under way keeps
 abbrev pub Fits : ReceiverState → Type 0
-Fits s = gaps.Fits (s .«gap_tracker»)
+Fits s = s .«gap_tracker» .«current_burst_len» ≤ gaps.maxLength
 
 -- ---- a new record
 -- nothing received, with a window and a first report interval

@@ -14,11 +14,11 @@ use numbers::methods::max_u64;
 use numbers::methods::saturating_add_u32;
 use refusals::option::OptionU64;
 use refusals::ranges::counter_u64_ok;
-use samples::OwdReference;
-use samples::base_of_unchecked;
-use samples::in_grace;
-use samples::jitter_after_unchecked;
-use samples::sample_owd_unchecked;
+use samples::delay::OwdReference;
+use samples::delay::base_of_unchecked;
+use samples::delay::sample_owd_unchecked;
+use samples::transit::in_grace;
+use samples::transit::jitter_after_unchecked;
 
 // One more where the counter is below the highest: out of order.
 fn reorders_after(reorders: u64, highest: u64, counter: u64) -> u64

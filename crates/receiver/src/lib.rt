@@ -16,8 +16,8 @@ use refusals::option::OptionU64;
 use refusals::questions::Questions;
 use refusals::ranges::clock_ok;
 use refusals::ranges::optional_clock_ok;
-use samples::OwdReference;
-use samples::reference_ok;
+use samples::delay::OwdReference;
+use samples::delay::reference_ok;
 
 // Grace after a rekey before jitter and delay are sampled again: frames of the old session may still come for 10 s, and 5 s margin.
 pub const REKEY_JITTER_GRACE_MS: u64 = 15_000;

@@ -9,7 +9,7 @@ use numbers::methods::saturating_u64_to_u32;
 use refusals::option::OptionU64;
 use refusals::questions::Questions;
 use refusals::ranges::clock_ok;
-use samples::echo_of_unchecked;
+use samples::echo::echo_of_unchecked;
 use wire::receiver_report::ReceiverReport;
 use wire::receiver_report::no_report;
 

@@ -13,8 +13,8 @@ use mir.Facts.{toZ-pos, toZ-neg}
 use Rattle.refusals.specs.Ranges.{delayOk}
 use Rattle.samples.specs.Words.{modulo, reduced}
 use Rattle.samples.specs.Delay.{span, base, younger, baseOf, ageOf, sentMs, delayUs, delayOf}
-use Rattle.samples.specs.declared.OwdReference.{OwdReference}
-use Rattle.samples.specs.declared.OwdReference.the-variants.{None, Some}
+use Rattle.samples.specs.declared.delay.OwdReference.{OwdReference}
+use Rattle.samples.specs.declared.delay.OwdReference.the-variants.{None, Some}
 use Rattle.samples.proofs.Differences.{minus, multiple}
 use Rattle.samples.proofs.Reduction.{modulo-below}
 

@@ -12,7 +12,7 @@ use Rattle.refusals.proofs.FirstNoFound.{each-yes}
 use Rattle.algorithms.specs.Owd.{keepsRule, windowsOk}
 use Rattle.algorithms.specs.declared.owd.OwdTrendDetector.{OwdTrendDetector}
 use Rattle.samples.specs.Delay.{referenceOk, delayOf, sampleRefusal, sampleOf}
-use Rattle.samples.specs.declared.OwdReference.{OwdReference}
+use Rattle.samples.specs.declared.delay.OwdReference.{OwdReference}
 use Rattle.samples.proofs.DelayInRange.{delay-in-range}
 use Rattle.samples.proofs.SampleKeepsRule.{pushed-keeps-rule, base-keeps-rule}
 

@@ -18,8 +18,8 @@ use Rattle.refusals.specs.declared.option.OptionU64.{OptionU64}
 use Rattle.refusals.specs.declared.option.OptionU64.the-variants as option
 use Rattle.samples.specs.Transit.{transit, jitterAfter}
 use Rattle.samples.specs.Delay.{referenceOk, span, restarts, base, younger, baseOf, windowFor, pushed}
-use Rattle.samples.specs.declared.OwdReference.{OwdReference}
-use Rattle.samples.specs.declared.OwdReference.the-variants as reference
+use Rattle.samples.specs.declared.delay.OwdReference.{OwdReference}
+use Rattle.samples.specs.declared.delay.OwdReference.the-variants as reference
 use Rattle.samples.proofs.Reduction.{reduced-fits}
 
 -- D is a signed 32-bit number

@@ -19,7 +19,7 @@ use refusals::option::unwrap_or_zero;
 use refusals::questions::Questions;
 use refusals::ranges::clock_ok;
 use refusals::ranges::frame_size_ok;
-use samples::OwdReference;
+use samples::delay::OwdReference;
 
 // 2^42 ms, 139 years: no clock that runs has come so far.
 const FAR_MS: u64 = 4_398_046_511_104;

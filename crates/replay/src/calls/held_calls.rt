@@ -49,7 +49,7 @@ fn decoded(given: &[u64], payload: &[u8]) -> Reply {
     match u64_of(given, 0) {
         168 => of_sender(reports::decode_sender_report(payload)),
         169 => of_receiver(reports::decode_receiver_report(payload)),
-        170 => of_sender(reports::sender_report_at(payload, pos)),
-        _ => of_receiver(reports::receiver_report_at(payload, pos)),
+        170 => of_sender(reports::decode_sender_report_at(payload, pos)),
+        _ => of_receiver(reports::decode_receiver_report_at(payload, pos)),
     }
 }

@@ -16,17 +16,17 @@ use crate::tables::u64_of;
 use crate::tables::wide_u16;
 use crate::tables::wide_u32;
 use algorithms::jitter::JitterEstimator;
-use samples::Echo;
-use samples::OwdBase;
-use samples::OwdReference;
-use samples::OwdSampled;
-use samples::base_of_unchecked;
-use samples::echo_of_unchecked;
-use samples::in_grace;
-use samples::jitter_after_unchecked;
-use samples::reference_ok;
-use samples::sample_owd;
-use samples::sample_owd_unchecked;
+use samples::delay::OwdBase;
+use samples::delay::OwdReference;
+use samples::delay::OwdSampled;
+use samples::delay::base_of_unchecked;
+use samples::delay::reference_ok;
+use samples::delay::sample_owd;
+use samples::delay::sample_owd_unchecked;
+use samples::echo::Echo;
+use samples::echo::echo_of_unchecked;
+use samples::transit::in_grace;
+use samples::transit::jitter_after_unchecked;
 
 // The calls that take no windows.
 pub fn answer(given: &[u64]) -> Reply {

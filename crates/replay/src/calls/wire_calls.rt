@@ -8,12 +8,12 @@ use crate::tables::u16_of;
 use crate::tables::u32_of;
 use crate::tables::u64_of;
 use crate::tables::wide_u16;
-use wire::path_mtu;
+use wire::path_mtu::PathMtuDecoded;
 use wire::path_mtu::PathMtuNotification;
-use wire::receiver_report;
 use wire::receiver_report::ReceiverReport;
-use wire::sender_report;
+use wire::receiver_report::ReceiverReportDecoded;
 use wire::sender_report::SenderReport;
+use wire::sender_report::SenderReportDecoded;
 
 pub fn answer(given: &[u64], buffer: &mut [u8]) -> Reply {
     match u64_of(given, 0) {
@@ -108,19 +108,19 @@ pub fn and_receiver_report(reply: Reply, r: ReceiverReport) -> Reply {
 }
 
 // A length answer and the fields.
-pub fn of_sender(d: sender_report::Decoded) -> Reply {
+pub fn of_sender(d: SenderReportDecoded) -> Reply {
     let report = d.report;
     let head = refusal(d.refusal).and_size(d.needed).and_size(d.given);
     and_sender_report(head, report)
 }
 
-pub fn of_receiver(d: receiver_report::Decoded) -> Reply {
+pub fn of_receiver(d: ReceiverReportDecoded) -> Reply {
     let report = d.report;
     let head = refusal(d.refusal).and_size(d.needed).and_size(d.given);
     and_receiver_report(head, report)
 }
 
-fn of_notification(d: path_mtu::Decoded) -> Reply {
+fn of_notification(d: PathMtuDecoded) -> Reply {
     let p = d.notification;
     refusal(d.refusal)
         .and_size(d.needed)
