@@ -1,4 +1,4 @@
--- The rule of a delay window, clause by clause, and that every call leaves it kept. Assumes nothing.
+-- The rule of a delay window, clause by clause, and that every call leaves it kept.
 use mathlib.Core.Path.{_≡_, refl}
 use Prim.Native.Nat.{ℕ, _+_, _-_, _≤_, _<_, min, max}
 use native.Mathlib.Omega.{arith}

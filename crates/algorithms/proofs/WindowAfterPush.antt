@@ -1,5 +1,5 @@
 -- What the calls do to the window as a list of pairs: a push appends its pair and drops the oldest of a full window, and writes one slot of each buffer;
--- a cleared window is empty. Assumes nothing.
+-- a cleared window is empty.
 use mathlib.Core.Path.{_≡_, refl, sym, ap, _∙_}
 use mathlib.Core.Logic.{_≢_, _⊎_, inl, inr}
 use Prim.Native.Nat.{ℕ, zero, suc, _+_, _-_, _≤_, _<_}

@@ -1,5 +1,4 @@
 -- Each call ends within a tracker's rule: a new tracker keeps it, and so does the tracker after a frame whose burst can be counted, and after a report.
--- Assumes nothing.
 use mathlib.Core.Path.{_≡_, refl, sym, ap, _∙_}
 use mathlib.Core.Bool.{true, false, cond, not, _&&_, _||_, true≢false, and-eq-true-iff}
 use Prim.Native.Nat.{ℕ, _+_, _-_, _*_, _^_, _≤_, _<_, min}

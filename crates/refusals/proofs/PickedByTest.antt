@@ -1,5 +1,4 @@
 -- Which case a test picks: a chain of these proves a return under several tests.
--- Assumes nothing.
 use mathlib.Core.Path.{_≡_, refl, sym}
 use mathlib.Core.Bool.{Bool, true, false, cond, true≢false}
 

@@ -1,5 +1,4 @@
 -- Every whole number is a difference of two naturals; what sums, negatives and multiples of differences come to.
--- Assumes nothing.
 use mathlib.Core.Path.{_≡_, refl, sym, ap, _∙_}
 use Prim.Native.Nat.{ℕ, zero, suc, _+_, _-_, _*_, _≤_, _<_}
 use native.Mathlib.Nat.{mul-add}

@@ -1,5 +1,4 @@
 -- What reduction to 32 bits means: the result is within signed 32 bits, a number within them stays, and a whole span of 2^32 makes no difference.
--- Assumes nothing.
 use mathlib.Core.Path.{_≡_, ap, _∙_}
 use Prim.Native.Nat.{ℕ, suc, _+_, _-_, _*_, _%_, _^_, _≤_, _<_}
 use native.Mathlib.Omega.{arith}

@@ -1,5 +1,4 @@
 -- A sample ends within the rule: the jitter, the window and the reference after it keep theirs.
--- Assumes nothing.
 use mathlib.Core.Path.{_≡_, refl, _∙_}
 use mathlib.Core.Bool.{true}
 use Prim.Native.Nat.{ℕ, _-_}

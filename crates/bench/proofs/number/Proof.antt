@@ -1,5 +1,4 @@
 -- `bench::number` is safe and ends: the digits that are left fall.
--- Assumes nothing.
 use borrow.Author.Needs.{needs}
 use Prim.Native.Nat.{_-_}
 use lib.ListN.{length}

@@ -1,5 +1,4 @@
 -- `bench::run` is safe and ends: the buffers keep their length, and the turns that are left fall.
--- Assumes nothing.
 use borrow.Author.Needs.{needs}
 use mathlib.Core.Path.{_≡_}
 use lib.ListN.{length}

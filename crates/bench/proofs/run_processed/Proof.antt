@@ -1,5 +1,4 @@
 -- `bench::run_processed` is safe and ends: the tables keep their length, and the turns that are left fall.
--- Assumes nothing.
 use borrow.Author.Needs.{needs}
 use mathlib.Core.Path.{_≡_}
 use lib.ListN.{length}

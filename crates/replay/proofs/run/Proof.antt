@@ -1,5 +1,4 @@
 -- `replay::run` is safe and ends: the tables and the text keep their room, and the turns that are left fall.
--- Assumes nothing.
 use borrow.Author.Needs.{needs}
 use mathlib.Core.Path.{_≡_}
 use lib.ListN.{length}

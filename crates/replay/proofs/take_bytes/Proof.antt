@@ -1,5 +1,4 @@
 -- `replay::take_bytes` is safe and ends: the tables and the text keep their room, and what is left of the bytes falls.
--- Assumes nothing.
 use borrow.Author.Needs.{needs}
 use Prim.Native.Nat.{_≤_, _-_}
 use mathlib.Core.Path.{_≡_}

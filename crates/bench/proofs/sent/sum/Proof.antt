@@ -1,5 +1,4 @@
 -- `bench::sent::sum` is safe and ends: the turns that are left fall, and then the records that are not added up.
--- Assumes nothing.
 use borrow.Author.Needs.{needs}
 use Prim.Native.Nat.{_-_}
 use Rattle.bench.proofs.sent.sum.Statement.{statement}

@@ -1,5 +1,4 @@
 -- `replay::shape::all_within` is safe and ends: the numbers that are left fall.
--- Assumes nothing.
 use borrow.Author.Needs.{needs}
 use Prim.Native.Nat.{_-_}
 use Rattle.replay.proofs.shape.all_within.Statement.{statement}

@@ -1,5 +1,4 @@
 -- `replay::shape::over` is safe and ends: the unit of the digits that are left falls.
--- Assumes nothing.
 use borrow.Author.Needs.{needs}
 use Rattle.replay.proofs.shape.over.Statement.{statement}
 use Rattle.replay.proofs.shape.over.Tie as tie

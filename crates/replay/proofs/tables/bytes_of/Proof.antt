@@ -1,5 +1,4 @@
 -- `replay::tables::bytes_of` is safe and ends: the room keeps its length, and what is left of it falls.
--- Assumes nothing.
 use borrow.Author.Needs.{needs}
 use Prim.Native.Nat.{_-_}
 use mathlib.Core.Path.{_≡_}

@@ -1,5 +1,4 @@
 -- `replay::tables::f64_of` is safe: a pattern that is not above infinity's, but for the sign, is no NaN's.
--- Assumes nothing.
 use mathlib.Core.Path.{sym, _∙_, subst}
 use mathlib.Core.Bool.{Bool, not}
 use Prim.Native.Nat.{ℕ, _%_, _≤_}

@@ -1,5 +1,4 @@
 -- `replay::tables::float_pattern` is safe: a float that does not differ from itself is no NaN.
--- Assumes nothing.
 use mathlib.Core.Path.{_≡_}
 use mathlib.Core.Bool.{false, not, true≢false}
 use lib.Dec.{T}

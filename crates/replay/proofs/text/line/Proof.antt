@@ -1,5 +1,4 @@
 -- `replay::text::line` is safe and ends: the text keeps its room, and the numbers that are left fall.
--- Assumes nothing.
 use borrow.Author.Needs.{needs}
 use Prim.Native.Nat.{_≤_, _-_}
 use mathlib.Core.Path.{_≡_}

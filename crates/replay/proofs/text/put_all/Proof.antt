@@ -1,5 +1,4 @@
 -- `replay::text::put_all` is safe and ends: the text keeps its room, and what is left of the bytes falls.
--- Assumes nothing.
 use borrow.Author.Needs.{needs}
 use Prim.Native.Nat.{_≤_, _-_}
 use mathlib.Core.Path.{_≡_}

@@ -1,5 +1,4 @@
 -- `replay::windows::push_delays` is safe and ends: the answer keeps its length, and what is left of the delays falls.
--- Assumes nothing.
 use borrow.Author.Needs.{needs}
 use Prim.Native.Nat.{_≤_, _-_}
 use mathlib.Core.Path.{_≡_}

@@ -1,5 +1,4 @@
 -- `replay::reply::Reply::and_bytes` is safe and ends: what is left of the bytes falls.
--- Assumes nothing.
 use borrow.Author.Needs.{needs}
 use Prim.Native.Nat.{_≤_, _-_}
 use lib.ListN.{length}
