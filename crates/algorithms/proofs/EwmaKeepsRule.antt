@@ -1,5 +1,4 @@
 -- Trends stay within their rule through rounding.
--- Assumes nothing.
 use mathlib.Core.Path.{_≡_, refl}
 use mathlib.Core.Bool.{Bool, true, false, and-eq-true-iff}
 use mathlib.Core.List.{[], _∷_}

@@ -1,5 +1,4 @@
 -- Scaled jitter stays within its rule: 2^35 is where a step of |D| = 2^31 gives back what it takes.
--- Assumes nothing.
 use mathlib.Core.Path.{_≡_, refl}
 use mathlib.Core.Bool.{true}
 use mathlib.Core.List.{[], _∷_}

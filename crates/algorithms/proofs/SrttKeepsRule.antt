@@ -1,5 +1,4 @@
 -- The smoothed round trip and its variation stay within their rule.
--- Assumes nothing.
 use mathlib.Core.Path.{_≡_, refl}
 use mathlib.Core.Bool.{Bool, true, false, cond}
 use mathlib.Core.List.{[], _∷_}

@@ -1,4 +1,4 @@
--- A round trip taken from a report is whole milliseconds and in the estimator's range, so question 8 never refuses. Assumes nothing.
+-- A round trip taken from a report is whole milliseconds and in the estimator's range, so question 8 never refuses.
 use mathlib.Core.Path.{_≡_}
 use mathlib.Core.Bool.{Bool, true, false, cond}
 use mathlib.Core.List.{[], _∷_}

@@ -1,4 +1,4 @@
--- Sums and differences, rounded once: of two values by their sizes over one denominator, and the same either way round. Assumes nothing.
+-- Sums and differences, rounded once: of two values by their sizes over one denominator, and the same either way round.
 use mathlib.Core.Path.{_≡_, refl, sym, ap, _∙_, subst}
 use mathlib.Core.Logic.{inl, inr}
 use Prim.Native.Nat.{ℕ, _+_, _-_, _*_, _^_, _≤_, _<_}

@@ -1,5 +1,4 @@
 -- The mean burst in 1/256 of a frame: the whole number 256 × total / count, at most 65,535, is what the Rust's route through floats gives.
--- Assumes nothing.
 use mathlib.Core.Path.{_≡_, refl, sym, ap, _∙_, subst}
 use mathlib.Core.Logic.{inl}
 use Prim.Native.Nat.{ℕ, zero, suc, _+_, _-_, _*_, _/_, _^_, _≤_, _<_, min}

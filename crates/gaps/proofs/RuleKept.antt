@@ -1,16 +1,16 @@
 -- Each call ends within a tracker's rule: a new tracker keeps it, and so does the tracker after a frame whose burst can be counted, and after a report.
--- Assumes nothing.
 use mathlib.Core.Path.{_≡_, refl, sym, ap, _∙_}
-use mathlib.Core.Bool.{Bool, true, false, cond, not, _&&_, _||_, true≢false, and-eq-true-iff}
+use mathlib.Core.Bool.{true, false, cond, not, _&&_, _||_, true≢false, and-eq-true-iff}
 use Prim.Native.Nat.{ℕ, _+_, _-_, _*_, _^_, _≤_, _<_, min}
 use native.Mathlib.Omega.{arith}
 use lib.Dec.{leb, eqb}
 use borrow.Author.Tests.{leb-true, le-leb, eqb-true, eqb-false, eq-eqb, ltb-true, not-false}
 use Rattle.refusals.specs.Ranges.{counterOk}
 use Rattle.refusals.proofs.Clauses.{either, or}
+use Rattle.refusals.proofs.PickedByTest.{picked}
 use Rattle.refusals.specs.declared.option.OptionU64.{OptionU64}
 use Rattle.refusals.specs.declared.option.OptionU64.the-variants.{None, Some}
-use Rattle.gaps.specs.Gaps.{maxLength, maxCounter, finishedBursts, keepsRule, fresh, gapAt, beginsBurst, burstsOk, nextAfter, expecting, burst, burstRecorded, burstFinished, gapLength, gapCounted, gapObserved, observedAfter, observed}
+use Rattle.gaps.specs.Gaps.{maxLength, maxCounter, finishedBursts, keepsRule, fresh, gapAt, beginsBurst, burstsOk, nextAfter, expecting, burstRecorded, burstFinished, gapCounted, gapObserved, observedAfter, observed}
 use Rattle.gaps.specs.Stats.{statsOf}
 use Rattle.gaps.specs.declared.GapTracker.{GapTracker}
 
@@ -62,46 +62,31 @@ finished-outside t e = ap (λ b. cond b (t .«burst_count» - 1) (t .«burst_cou
 -- ---- a burst ends
 pub burst-finished-kept : (t : GapTracker) → Kept t → Fits t → Kept (burstFinished t)
 unfolding burstFinished finishedBursts
-burst-finished-kept t k f = go (t .«in_burst») refl
+burst-finished-kept t k f = picked Kept (t .«in_burst») recorded (λ e. k)
   where
-    go : (b : Bool) → t .«in_burst» ≡ b → Kept (cond b (burstRecorded t) t)
-    go true e =
-        let n = k .inside e in
-        let l = k .total in
-        record { outside = λ z. refl; inside = λ z. absurd (true≢false (sym z)); total = omega (arith, l, n, f, finished-inside t e) }
-    go false e = k
+    recorded : t .«in_burst» ≡ true → Kept (burstRecorded t)
+    recorded e =
+        record { outside = λ z. refl; inside = λ z. absurd (true≢false (sym z)); total = omega (arith, k .total, k .inside e, f, finished-inside t e) }
 
 pub burst-finished-keeps-rule : (t : GapTracker) → keepsRule t ≡ true → Fits t → keepsRule (burstFinished t) ≡ true
 burst-finished-keeps-rule t h f = keeps (burstFinished t) (burst-finished-kept t (kept t h) f)
 
 pub burst-finished-outside : (t : GapTracker) → burstFinished t .«in_burst» ≡ false
 unfolding burstFinished
-burst-finished-outside t = go (t .«in_burst») refl
-  where
-    go : (b : Bool) → t .«in_burst» ≡ b → cond b (burstRecorded t) t .«in_burst» ≡ false
-    go true e = refl
-    go false e = e
+burst-finished-outside t = picked (λ (u : GapTracker). u .«in_burst» ≡ false) (t .«in_burst») (λ e. refl) (λ e. e)
 
 -- ---- a gap
 gap-counted-kept : (t : GapTracker) (gap : ℕ) → Kept t → (t .«in_burst» ≡ false → t .«burst_count» + 1 < 2 ^ 32) → Kept (gapCounted t gap)
 unfolding gapCounted finishedBursts
-gap-counted-kept t gap k room = go (t .«in_burst») refl
-  where
-    go : (b : Bool) → t .«in_burst» ≡ b
-        → Kept (cond b (burst t (t .«in_burst») (min (t .«current_burst_len» + gapLength gap) maxLength) (t .«burst_count»)) (burst t true (gapLength gap) (min (t .«burst_count» + 1) 4294967295)))
-    go true e = record { outside = λ z. absurd (true≢false (sym e ∙ z)); inside = k .inside; total = k .total }
-    go false e =
-        let r = room e in
-        let l = k .total in
-        record { outside = λ z. absurd (true≢false z); inside = λ z. omega arith; total = omega (arith, l, r, finished-outside t e) }
+gap-counted-kept t gap k room =
+    picked Kept (t .«in_burst») (λ e. record { outside = λ z. absurd (true≢false (sym e ∙ z)); inside = k .inside; total = k .total })
+    (λ e. record { outside = λ z. absurd (true≢false z); inside = λ z. omega arith; total = omega (arith, k .total, room e, finished-outside t e) })
 
 gap-observed-kept : (t : GapTracker) (gap : ℕ) → Kept t → Fits t → (t .«in_burst» ≡ false → 1 ≤ gap → t .«burst_count» + 1 < 2 ^ 32) → Kept (gapObserved t gap)
 unfolding gapObserved
-gap-observed-kept t gap k f room = go (eqb gap 0) (eqb-false gap 0)
-  where
-    go : (b : Bool) → (b ≡ false → gap ≡ 0 → ⊥) → Kept (cond b (burstFinished t) (gapCounted t gap))
-    go true n = burst-finished-kept t k f
-    go false n = let m = n refl in gap-counted-kept t gap k (λ e. room e (omega arith))
+gap-observed-kept t gap k f room =
+    picked Kept (eqb gap 0) (λ e. burst-finished-kept t k f)
+    (λ e. let m = eqb-false gap 0 e in gap-counted-kept t gap k (λ o. room o (omega arith)))
 
 expecting-kept : (t : GapTracker) (next : ℕ) → Kept t → Kept (expecting t next)
 unfolding finishedBursts
@@ -124,27 +109,15 @@ observed-keeps-rule t counter h f b = keeps _ (go (t .«expected_next») (room-a
 -- ---- the current length stays within its type
 burst-finished-fits : (t : GapTracker) → Fits t → Fits (burstFinished t)
 unfolding burstFinished
-burst-finished-fits t f = go (t .«in_burst»)
-  where
-    go : (b : Bool) → Fits (cond b (burstRecorded t) t)
-    go true = omega arith
-    go false = f
+burst-finished-fits t f = picked Fits (t .«in_burst») (λ e. omega arith) (λ e. f)
 
 gap-counted-fits : (t : GapTracker) (gap : ℕ) → Fits (gapCounted t gap)
 unfolding gapCounted
-gap-counted-fits t gap = go (t .«in_burst»)
-  where
-    go : (b : Bool) → Fits (cond b (burst t (t .«in_burst») (min (t .«current_burst_len» + gapLength gap) maxLength) (t .«burst_count»)) (burst t true (gapLength gap) (min (t .«burst_count» + 1) 4294967295)))
-    go true = omega arith
-    go false = omega arith
+gap-counted-fits t gap = picked Fits (t .«in_burst») (λ e. omega arith) (λ e. omega arith)
 
 gap-observed-fits : (t : GapTracker) (gap : ℕ) → Fits t → Fits (gapObserved t gap)
 unfolding gapObserved
-gap-observed-fits t gap f = go (eqb gap 0)
-  where
-    go : (b : Bool) → Fits (cond b (burstFinished t) (gapCounted t gap))
-    go true = burst-finished-fits t f
-    go false = gap-counted-fits t gap
+gap-observed-fits t gap f = picked Fits (eqb gap 0) (λ e. burst-finished-fits t f) (λ e. gap-counted-fits t gap)
 
 pub observed-fits : (t : GapTracker) (counter : ℕ) → Fits t → Fits (observed t counter .tracker)
 unfolding observed

@@ -1,5 +1,4 @@
 -- Every figure of the record is an f64 in its range, and stays so through a rekey and an update of the reverse ratio.
--- Assumes nothing.
 use mathlib.Core.Path.{_≡_, refl}
 use mathlib.Core.Bool.{Bool, true, false, cond, _&&_}
 use Prim.Native.Nat.{ℕ, _-_, _^_, _≤_, _<_}

@@ -1,5 +1,4 @@
 -- A report by its cases: refused, stale, or taken. A refusal and a stale report move no figure; a report taken moves the round trip by its echo alone.
--- Assumes nothing.
 use mathlib.Core.Path.{_≡_, refl, sym, _∙_}
 use mathlib.Core.Bool.{Bool, true, false, cond, true≢false, _&&_}
 use Prim.Native.Nat.{ℕ, _-_}

@@ -1,5 +1,4 @@
 -- Every figure of the record stays an f64 in its range through each stage of a report.
--- Assumes nothing.
 use mathlib.Core.Path.{_≡_, refl}
 use Prim.Native.Nat.{ℕ, _-_, _^_, _≤_, _<_}
 use native.Mathlib.Omega.{arith}

@@ -1,6 +1,5 @@
 -- What each call does to the smoothed round trip and to the report kept: a report taken steps the estimate by its sample, if it has one, and is kept; a rekey keeps
 -- the estimate and no report; every other call leaves both.
--- Assumes nothing.
 use mathlib.Core.Path.{_≡_, refl, ap, _∙_}
 use mathlib.Core.Bool.{Bool, true, false, cond, _&&_}
 use Prim.Native.Nat.{ℕ, _-_, _^_, _<_}

@@ -1,5 +1,4 @@
 -- Each call ends within the rule, floats included: a new record keeps it, and so does the record after any call that is accepted. Refused or not, f64 stay f64.
--- Assumes nothing.
 use mathlib.Core.Path.{_≡_, refl}
 use mathlib.Core.Bool.{Bool, true, false, cond, _&&_}
 use Prim.Native.Nat.{ℕ, _+_, _-_, _^_, _≤_, _<_}

@@ -1,5 +1,4 @@
 -- The count of reports seen moves no other figure: two records that differ in it alone differ in it alone after every call, and get the same outcomes.
--- Assumes nothing.
 use mathlib.Core.Path.{_≡_, refl, ap, _∙_}
 use mathlib.Core.Bool.{Bool, true, false, cond, not, _&&_}
 use Prim.Native.Nat.{ℕ, _-_}

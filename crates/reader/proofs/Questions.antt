@@ -1,5 +1,4 @@
 -- What a reader by value is asked, each as `PassedOn` takes it: how many bytes are left, and for the report that stands at its position.
--- Assumes nothing: these are definitions.
 use Prim.Native.Nat.{_-_}
 use lib.ListN.{length}
 use mir.Syntax.{tyInt, w64}

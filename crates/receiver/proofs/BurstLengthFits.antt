@@ -1,5 +1,4 @@
 -- The length of the burst under way stays within the 16 bits of its type, in a new record and after every call, refused or not.
--- Assumes nothing.
 use mathlib.Core.Bool.{Bool, true, false, cond}
 use mathlib.Core.List.{List}
 use Prim.Native.Nat.{ℕ, _+_}

@@ -1,5 +1,4 @@
 -- What the rule says by its clauses, and what a call that nothing refuses knows of its record and its arguments.
--- Assumes nothing.
 use mathlib.Core.Path.{_≡_, refl}
 use mathlib.Core.Bool.{Bool, true, _&&_, and-eq-true-iff}
 use mathlib.Core.List.{List, [], _∷_}

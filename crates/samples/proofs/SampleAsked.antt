@@ -1,5 +1,4 @@
 -- The questions of a sample: question 5 can be left out, and a sample that nothing refuses ends within the rule.
--- Assumes nothing.
 use mathlib.Core.Path.{_≡_, refl}
 use mathlib.Core.Bool.{true, _&&_, and-eq-true-iff}
 use mathlib.Core.List.{List, [], _∷_}

@@ -1,4 +1,4 @@
-// One-way delay from a reference. `_unchecked` is for a record that has asked the questions.
+// One-way delay from a reference.
 
 ghost use mathlib.Core.Path.{_≡_};
 ghost use Prim.Native.Nat.{_<_, _^_};

@@ -1,4 +1,4 @@
-// The echo of a report. `_unchecked` is for a record that has asked the questions.
+// The echo of a report.
 
 ghost use mathlib.Core.Path.{_≡_};
 ghost use Rattle.samples.specs.Echo.{echoAfter, echoOf};

@@ -1,4 +1,4 @@
-// receiver.rs, the sampling half of a frame, and the echo of a report.
+// receiver.rs, the sampling half of a frame, and the echo of a report. `_unchecked` is for a record that has asked the questions.
 
 pub mod delay; // delay.rt: one-way delay from a reference
 pub mod echo; // echo.rt: the echo of a report

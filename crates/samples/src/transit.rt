@@ -1,4 +1,4 @@
-// The transit difference of a sampled frame, and the jitter after it. `_unchecked` is for a record that has asked the questions.
+// The transit difference of a sampled frame, and the jitter after it.
 
 ghost use mathlib.Core.Path.{_≡_};
 ghost use Rattle.samples.specs.Transit.{inGrace, transit, jitterAfter};

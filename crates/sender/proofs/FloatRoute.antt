@@ -1,5 +1,4 @@
 -- The effective interval by whole numbers is that of the Rust's float route, `(report_interval_ms as f64 * multiplier) as u64`: every float on the way is exact.
--- Assumes nothing.
 use mathlib.Core.Path.{_≡_}
 use mathlib.Core.Bool.{true}
 use Prim.Native.Nat.{ℕ, _^_, _≤_, min}

@@ -1,5 +1,4 @@
 -- Each call ends within the rule: a new record keeps it, and so does the record after any call that is accepted.
--- Assumes nothing.
 use mathlib.Core.Path.{_≡_, refl}
 use mathlib.Core.Bool.{Bool, true, false, cond, and-eq-true-iff}
 use Prim.Native.Nat.{ℕ, _*_, _≤_}

@@ -1,5 +1,4 @@
 -- EVERY ROW OF THE TABLE HOLDS, worked out from the definitions.
--- Assumes nothing.
 use mathlib.Core.Path.{_≡_, refl}
 use mathlib.Core.Bool.{true}
 use lib.Ieee as ieee

@@ -1,4 +1,4 @@
--- `figures::goodput_after_unchecked` meets its contract. Assumes nothing.
+-- `figures::goodput_after_unchecked` meets its contract.
 use borrow.Author.Needs.{needs}
 use Rattle.figures.specs.Goodput.{goodputAfter}
 use Rattle.figures.proofs.goodput_after_unchecked.Statement.{statement}

@@ -1,4 +1,4 @@
--- `gaps::gap_at` meets its contract. Assumes nothing.
+-- `gaps::gap_at` meets its contract.
 use borrow.Author.Needs.{needs}
 use Rattle.gaps.proofs.gap_at.Statement.{statement}
 use Rattle.gaps.proofs.gap_at.Tie as tie

@@ -1,4 +1,4 @@
--- `algorithms::spin::since_edge` meets its contract. Assumes nothing.
+-- `algorithms::spin::since_edge` meets its contract.
 use borrow.Author.Needs.{needs}
 use mathlib.Core.Path.{ap}
 use Rattle.refusals.specs.declared.option.OptionU64.the-variants.{Some}

@@ -1,4 +1,4 @@
--- `gaps::GapTracker::count_gap` meets its contract. Assumes nothing.
+-- `gaps::GapTracker::count_gap` meets its contract.
 use Rattle.refusals.proofs.PickedByTest.{yes, no}
 use Rattle.gaps.specs.Gaps.{gapCounted}
 use Rattle.gaps.proofs.GapTracker.count_gap.Statement.{statement}

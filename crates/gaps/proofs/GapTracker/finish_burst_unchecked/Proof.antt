@@ -1,4 +1,4 @@
--- `gaps::GapTracker::finish_burst_unchecked` meets its contract. Assumes nothing.
+-- `gaps::GapTracker::finish_burst_unchecked` meets its contract.
 use mathlib.Core.Path.{refl}
 use borrow.Author.Needs.{needs}
 use Rattle.refusals.proofs.PickedByTest.{yes, no}

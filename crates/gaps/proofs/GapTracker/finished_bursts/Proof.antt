@@ -1,4 +1,4 @@
--- `gaps::GapTracker::finished_bursts` meets its contract. Assumes nothing.
+-- `gaps::GapTracker::finished_bursts` meets its contract.
 use mathlib.Core.Path.{refl}
 use borrow.Author.Needs.{needs}
 use Rattle.refusals.proofs.PickedByTest.{yes, no}

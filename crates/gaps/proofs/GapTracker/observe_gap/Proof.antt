@@ -1,4 +1,4 @@
--- `gaps::GapTracker::observe_gap` meets its contract. Assumes nothing.
+-- `gaps::GapTracker::observe_gap` meets its contract.
 use borrow.Author.Tests.{eq-eqb, ne-eqb}
 use Rattle.refusals.proofs.PickedByTest.{yes, no}
 use Rattle.gaps.specs.Gaps.{gapObserved}

@@ -1,4 +1,4 @@
--- `gaps::GapTracker::observe_unchecked` meets its contract. Assumes nothing.
+-- `gaps::GapTracker::observe_unchecked` meets its contract.
 use mathlib.Core.Path.{sym, ap}
 use borrow.Author.Needs.{needs}
 use Rattle.gaps.specs.Gaps.{observedAfter, observed}

@@ -1,4 +1,4 @@
--- `metrics::MmpMetrics::deliver` meets its contract. Assumes nothing.
+-- `metrics::MmpMetrics::deliver` meets its contract.
 use mathlib.Core.Path.{refl}
 use Rattle.refusals.proofs.PickedByTest.{yes, no}
 use Rattle.metrics.specs.Reports.{delivered}

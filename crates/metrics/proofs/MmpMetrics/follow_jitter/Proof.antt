@@ -1,4 +1,4 @@
--- `metrics::MmpMetrics::follow_jitter` meets its contract. Assumes nothing.
+-- `metrics::MmpMetrics::follow_jitter` meets its contract.
 use borrow.Author.Needs.{needs}
 use Rattle.metrics.specs.Reports.{jittered}
 use Rattle.metrics.proofs.MmpMetrics.follow_jitter.Statement.{statement}

@@ -1,4 +1,4 @@
--- `metrics::MmpMetrics::keep` meets its contract. Assumes nothing.
+-- `metrics::MmpMetrics::keep` meets its contract.
 use mathlib.Core.Path.{refl}
 use Rattle.metrics.specs.Reports.{kept}
 use Rattle.metrics.proofs.MmpMetrics.keep.Statement.{statement}

@@ -1,4 +1,4 @@
--- `metrics::MmpMetrics::leave` meets its contract. Assumes nothing.
+-- `metrics::MmpMetrics::leave` meets its contract.
 use mathlib.Core.Path.{refl}
 use Rattle.metrics.proofs.MmpMetrics.leave.Statement.{statement}
 use Rattle.metrics.proofs.MmpMetrics.leave.Tie as tie

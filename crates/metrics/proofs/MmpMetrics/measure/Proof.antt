@@ -1,4 +1,4 @@
--- `metrics::MmpMetrics::measure` meets its contract. Assumes nothing.
+-- `metrics::MmpMetrics::measure` meets its contract.
 use Rattle.metrics.specs.Reports.{measured}
 use Rattle.metrics.proofs.MmpMetrics.measure.Statement.{statement}
 use Rattle.metrics.proofs.MmpMetrics.measure.Tie as tie

@@ -1,4 +1,4 @@
--- `metrics::MmpMetrics::process` meets its contract. Assumes nothing.
+-- `metrics::MmpMetrics::process` meets its contract.
 use mathlib.Core.Path.{sym, _∙_}
 use Rattle.refusals.proofs.PickedByTest.{yes, no}
 use Rattle.metrics.specs.Reports.{processed}

@@ -1,4 +1,4 @@
--- `metrics::MmpMetrics::process_receiver_report` meets its contract. Assumes nothing.
+-- `metrics::MmpMetrics::process_receiver_report` meets its contract.
 use mathlib.Core.Path.{_≡_, sym, subst, _∙_}
 use borrow.Author.Tests.{eq-eqb, ne-eqb}
 use Rattle.metrics.specs.Reports.{Room, counted, processOf}

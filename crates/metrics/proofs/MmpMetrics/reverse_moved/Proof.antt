@@ -1,4 +1,4 @@
--- `metrics::MmpMetrics::reverse_moved` meets its contract. Assumes nothing.
+-- `metrics::MmpMetrics::reverse_moved` meets its contract.
 use mathlib.Core.Path.{refl}
 use Rattle.refusals.proofs.PickedByTest.{yes, no}
 use Rattle.metrics.specs.Updates.{reverseMoved}

@@ -1,4 +1,4 @@
--- `metrics::MmpMetrics::take` meets its contract. Assumes nothing.
+-- `metrics::MmpMetrics::take` meets its contract.
 use Rattle.metrics.specs.Reports.{taken}
 use Rattle.metrics.proofs.MmpMetrics.take.Statement.{statement}
 use Rattle.metrics.proofs.MmpMetrics.take.Tie as tie

@@ -1,4 +1,4 @@
--- `metrics::MmpMetrics::take_trip` meets its contract. Assumes nothing.
+-- `metrics::MmpMetrics::take_trip` meets its contract.
 use borrow.Author.Needs.{needs}
 use Rattle.metrics.specs.Reports.{tripTaken}
 use Rattle.metrics.proofs.MmpMetrics.take_trip.Statement.{statement}

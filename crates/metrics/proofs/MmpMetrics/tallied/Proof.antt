@@ -1,4 +1,4 @@
--- `metrics::MmpMetrics::tallied` meets its contract. Assumes nothing.
+-- `metrics::MmpMetrics::tallied` meets its contract.
 use mathlib.Core.Path.{refl}
 use Rattle.metrics.proofs.MmpMetrics.tallied.Statement.{statement}
 use Rattle.metrics.proofs.MmpMetrics.tallied.Tie as tie

@@ -1,4 +1,4 @@
--- `metrics::MmpMetrics::trip_log` meets its contract. Assumes nothing.
+-- `metrics::MmpMetrics::trip_log` meets its contract.
 use borrow.Author.Needs.{needs}
 use Rattle.metrics.specs.Reports.{tripLog}
 use Rattle.metrics.proofs.MmpMetrics.trip_log.Statement.{statement}

@@ -1,4 +1,4 @@
--- `numbers::signs::bits32` meets its contract. Assumes nothing.
+-- `numbers::signs::bits32` meets its contract.
 use native.Mathlib.Omega.{arith}
 use Rattle.numbers.proofs.SignTold.{read-not-negative, read-complement}
 use Rattle.numbers.proofs.signs.bits32.Statement.{statement}

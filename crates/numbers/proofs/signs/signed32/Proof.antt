@@ -1,4 +1,4 @@
--- `numbers::signs::signed32` meets its contract. Assumes nothing.
+-- `numbers::signs::signed32` meets its contract.
 use mathlib.Core.Path.{ap}
 use borrow.Author.Needs.{needs}
 use native.Mathlib.Omega.{arith}

@@ -1,4 +1,4 @@
--- `reader::reports::decode_receiver_report_at` meets its contract. Assumes nothing.
+-- `reader::reports::decode_receiver_report_at` meets its contract.
 use borrow.Author.Needs.{needs}
 use native.Mathlib.Omega.{arith}
 use mathlib.Core.Path.{sym, ap, _∙_}

@@ -1,4 +1,4 @@
--- `decode_sender_report` meets its contract: a new reader is asked for the report. Assumes nothing.
+-- `decode_sender_report` meets its contract: a new reader is asked for the report.
 use base.Logic.{emp}
 use contract.Monad.{factI}
 use contract.Running.{givenOf, tables, tablesOf}

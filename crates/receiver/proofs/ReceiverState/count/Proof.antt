@@ -1,4 +1,4 @@
--- `receiver::ReceiverState::count` meets its contract. Assumes nothing.
+-- `receiver::ReceiverState::count` meets its contract.
 use Rattle.receiver.specs.Frames.{counted}
 use Rattle.receiver.proofs.ReceiverState.count.Statement.{statement}
 use Rattle.receiver.proofs.ReceiverState.count.Tie as tie

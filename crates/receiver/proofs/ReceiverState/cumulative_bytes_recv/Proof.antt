@@ -1,4 +1,4 @@
--- `receiver::ReceiverState::cumulative_bytes_recv` meets its contract. Assumes nothing.
+-- `receiver::ReceiverState::cumulative_bytes_recv` meets its contract.
 use Rattle.receiver.proofs.ReceiverState.cumulative_bytes_recv.Statement.{statement}
 use Rattle.receiver.proofs.ReceiverState.cumulative_bytes_recv.Tie as tie
 

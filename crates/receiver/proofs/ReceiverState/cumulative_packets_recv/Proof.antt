@@ -1,4 +1,4 @@
--- `receiver::ReceiverState::cumulative_packets_recv` meets its contract. Assumes nothing.
+-- `receiver::ReceiverState::cumulative_packets_recv` meets its contract.
 use Rattle.receiver.proofs.ReceiverState.cumulative_packets_recv.Statement.{statement}
 use Rattle.receiver.proofs.ReceiverState.cumulative_packets_recv.Tie as tie
 

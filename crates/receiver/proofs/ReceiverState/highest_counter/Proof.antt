@@ -1,4 +1,4 @@
--- `receiver::ReceiverState::highest_counter` meets its contract. Assumes nothing.
+-- `receiver::ReceiverState::highest_counter` meets its contract.
 use Rattle.receiver.proofs.ReceiverState.highest_counter.Statement.{statement}
 use Rattle.receiver.proofs.ReceiverState.highest_counter.Tie as tie
 

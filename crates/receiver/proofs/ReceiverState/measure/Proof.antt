@@ -1,4 +1,4 @@
--- `receiver::ReceiverState::measure` meets its contract. Assumes nothing.
+-- `receiver::ReceiverState::measure` meets its contract.
 use borrow.Author.Needs.{needs}
 use Rattle.receiver.specs.Frames.{measured, slotFor}
 use Rattle.receiver.proofs.ReceiverState.measure.Statement.{statement}

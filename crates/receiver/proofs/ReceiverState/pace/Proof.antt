@@ -1,4 +1,4 @@
--- `receiver::ReceiverState::pace` meets its contract. Assumes nothing.
+-- `receiver::ReceiverState::pace` meets its contract.
 use mathlib.Core.Path.{_≡_, ap, _∙_}
 use mir.Syntax.{w64}
 use mir.Facts.{toZ-ofZ}

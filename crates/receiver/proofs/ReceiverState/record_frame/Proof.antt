@@ -1,4 +1,4 @@
--- `receiver::ReceiverState::record_frame` meets its contract. Assumes nothing.
+-- `receiver::ReceiverState::record_frame` meets its contract.
 use borrow.Author.Needs.{needs}
 use mathlib.Core.Path.{_≡_, sym, _∙_}
 use native.Mathlib.Omega.{arith}

@@ -1,4 +1,4 @@
--- `receiver::ReceiverState::report` meets its contract. Assumes nothing.
+-- `receiver::ReceiverState::report` meets its contract.
 use mir.Syntax.{w32}
 use mir.Facts.{toZ-ofZ}
 use Rattle.receiver.specs.Reports.{reportOf}

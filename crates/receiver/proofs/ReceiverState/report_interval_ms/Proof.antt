@@ -1,4 +1,4 @@
--- `receiver::ReceiverState::report_interval_ms` meets its contract. Assumes nothing.
+-- `receiver::ReceiverState::report_interval_ms` meets its contract.
 use Rattle.receiver.proofs.ReceiverState.report_interval_ms.Statement.{statement}
 use Rattle.receiver.proofs.ReceiverState.report_interval_ms.Tie as tie
 

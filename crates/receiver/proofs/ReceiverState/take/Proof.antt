@@ -1,4 +1,4 @@
--- `receiver::ReceiverState::take` meets its contract. Assumes nothing.
+-- `receiver::ReceiverState::take` meets its contract.
 use borrow.Author.Needs.{needs}
 use Rattle.refusals.proofs.PickedByTest.{yes, no}
 use mathlib.Core.Path.{refl, sym, _∙_}

@@ -1,4 +1,4 @@
--- `receiver::ReceiverState::unmeasured` meets its contract. Assumes nothing.
+-- `receiver::ReceiverState::unmeasured` meets its contract.
 use Rattle.refusals.proofs.PickedByTest.{yes, no}
 use mathlib.Core.Path.{refl}
 use Rattle.receiver.specs.Frames.{unmeasured}

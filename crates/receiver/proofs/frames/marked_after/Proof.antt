@@ -1,4 +1,4 @@
--- `receiver::frames::marked_after` meets its contract. Assumes nothing.
+-- `receiver::frames::marked_after` meets its contract.
 use Rattle.refusals.proofs.PickedByTest.{yes, no}
 use mathlib.Core.Path.{refl}
 use Rattle.receiver.specs.Frames.{markedAfter}

@@ -1,4 +1,4 @@
--- `receiver::frames::reorders_after` meets its contract. Assumes nothing.
+-- `receiver::frames::reorders_after` meets its contract.
 use Rattle.refusals.proofs.PickedByTest.{yes, no}
 use mathlib.Core.Path.{refl}
 use borrow.Author.Tests.{lt-ltb, le-ltb}

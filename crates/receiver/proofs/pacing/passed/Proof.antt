@@ -1,4 +1,4 @@
--- `receiver::pacing::passed` meets its contract. Assumes nothing.
+-- `receiver::pacing::passed` meets its contract.
 use borrow.Author.Needs.{needs}
 use Rattle.receiver.proofs.pacing.passed.Statement.{statement}
 use Rattle.receiver.proofs.pacing.passed.Tie as tie

@@ -1,4 +1,4 @@
--- `samples::delay::base_of_unchecked` meets its contract. Assumes nothing.
+-- `samples::delay::base_of_unchecked` meets its contract.
 use borrow.Author.Needs.{needs}
 use Rattle.samples.proofs.delay.base_of_unchecked.Statement.{statement}
 use Rattle.samples.proofs.delay.base_of_unchecked.Tie as tie

@@ -1,4 +1,4 @@
--- `samples::delay::delay_us` meets its contract. Assumes nothing.
+-- `samples::delay::delay_us` meets its contract.
 use borrow.Author.Needs.{needs}
 use mathlib.Core.Path.{sym, _∙_}
 use native.Mathlib.Omega.{arith}

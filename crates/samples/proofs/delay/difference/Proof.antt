@@ -1,4 +1,4 @@
--- `samples::delay::difference` meets its contract. Assumes nothing.
+-- `samples::delay::difference` meets its contract.
 use borrow.Author.Needs.{needs}
 use Rattle.refusals.proofs.PickedByTest.{yes, no}
 use mathlib.Core.Path.{_≡_, ap, _∙_}

@@ -1,4 +1,4 @@
--- `samples::delay::reference_ok` meets its contract. Assumes nothing.
+-- `samples::delay::reference_ok` meets its contract.
 use borrow.Author.Needs.{needs}
 use Rattle.samples.proofs.delay.reference_ok.Statement.{statement}
 use Rattle.samples.proofs.delay.reference_ok.Tie as tie

@@ -1,4 +1,4 @@
--- `samples::delay::sample_owd` meets its contract. Assumes nothing.
+-- `samples::delay::sample_owd` meets its contract.
 use borrow.Author.Needs.{needs}
 use mathlib.Core.Path.{_≡_, sym, _∙_}
 use borrow.Author.Tests.{eq-eqb, ne-eqb}

@@ -1,4 +1,4 @@
--- `samples::delay::sample_owd_unchecked` meets its contract. Assumes nothing.
+-- `samples::delay::sample_owd_unchecked` meets its contract.
 use borrow.Author.Needs.{needs}
 use mathlib.Core.Path.{_≡_}
 use native.Mathlib.Omega.{arith}

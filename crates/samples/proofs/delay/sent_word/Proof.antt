@@ -1,4 +1,4 @@
--- `samples::delay::sent_word` meets its contract. Assumes nothing.
+-- `samples::delay::sent_word` meets its contract.
 use borrow.Author.Needs.{needs}
 use mathlib.Core.Path.{sym, ap, _∙_}
 use native.Mathlib.Omega.{arith}

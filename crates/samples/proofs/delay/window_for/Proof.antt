@@ -1,4 +1,4 @@
--- `samples::delay::window_for` meets its contract. Assumes nothing.
+-- `samples::delay::window_for` meets its contract.
 use Rattle.refusals.proofs.PickedByTest.{yes, no}
 use mathlib.Core.Path.{refl, sym, _∙_}
 use Rattle.samples.specs.Delay.{windowFor}

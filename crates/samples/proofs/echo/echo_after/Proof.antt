@@ -1,4 +1,4 @@
--- `samples::echo::echo_after` meets its contract. Assumes nothing.
+-- `samples::echo::echo_after` meets its contract.
 use borrow.Author.Needs.{needs}
 use Rattle.refusals.proofs.PickedByTest.{yes, no}
 use mathlib.Core.Path.{refl}

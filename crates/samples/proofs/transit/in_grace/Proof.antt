@@ -1,4 +1,4 @@
--- `samples::transit::in_grace` meets its contract. Assumes nothing.
+-- `samples::transit::in_grace` meets its contract.
 use borrow.Author.Needs.{needs}
 use Rattle.samples.proofs.transit.in_grace.Statement.{statement}
 use Rattle.samples.proofs.transit.in_grace.Tie as tie

@@ -1,4 +1,4 @@
--- `samples::transit::jitter_after_unchecked` meets its contract. Assumes nothing.
+-- `samples::transit::jitter_after_unchecked` meets its contract.
 use borrow.Author.Needs.{needs}
 use mathlib.Core.Path.{sym, ap}
 use mir.Syntax.{w32}

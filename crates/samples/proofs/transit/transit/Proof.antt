@@ -1,4 +1,4 @@
--- `samples::transit::transit` meets its contract. Assumes nothing.
+-- `samples::transit::transit` meets its contract.
 use borrow.Author.Needs.{needs}
 use mathlib.Core.Path.{_≡_, sym, ap, _∙_}
 use Prim.Native.Nat.{ℕ, _+_, _-_, _*_, _/_, _%_, _^_, _<_}

@@ -1,4 +1,4 @@
--- `sender::SenderState::cumulative_bytes_sent` meets its contract. Assumes nothing.
+-- `sender::SenderState::cumulative_bytes_sent` meets its contract.
 use Rattle.sender.proofs.SenderState.cumulative_bytes_sent.Statement.{statement}
 use Rattle.sender.proofs.SenderState.cumulative_bytes_sent.Tie as tie
 

@@ -1,4 +1,4 @@
--- `sender::SenderState::due` meets its contract. Assumes nothing.
+-- `sender::SenderState::due` meets its contract.
 use native.Mathlib.Omega.{arith}
 use native.Mathlib.Nat.{mul-le-mul}
 use Rattle.sender.specs.Reports.{isDue}

@@ -1,4 +1,4 @@
--- `sender::SenderState::pace` meets its contract. Assumes nothing.
+-- `sender::SenderState::pace` meets its contract.
 use mathlib.Core.Path.{_≡_, ap, _∙_}
 use native.Mathlib.Omega.{arith}
 use mir.Syntax.{w64}

@@ -1,4 +1,4 @@
--- `sender::SenderState::record_sent` meets its contract. Assumes nothing.
+-- `sender::SenderState::record_sent` meets its contract.
 use mathlib.Core.Path.{_≡_, refl, sym, ap, _∙_}
 use borrow.Author.Tests.{eq-eqb, ne-eqb}
 use mathlib.Core.Bool.{Bool, true, false, cond}

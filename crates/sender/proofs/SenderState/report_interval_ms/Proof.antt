@@ -1,4 +1,4 @@
--- `sender::SenderState::report_interval_ms` meets its contract. Assumes nothing.
+-- `sender::SenderState::report_interval_ms` meets its contract.
 use Rattle.sender.proofs.SenderState.report_interval_ms.Statement.{statement}
 use Rattle.sender.proofs.SenderState.report_interval_ms.Tie as tie
 

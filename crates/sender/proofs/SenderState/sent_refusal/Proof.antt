@@ -1,4 +1,4 @@
--- `sender::SenderState::sent_refusal` meets its contract. Assumes nothing.
+-- `sender::SenderState::sent_refusal` meets its contract.
 use mathlib.Core.Path.{_≡_, sym, ap, _∙_}
 use mathlib.Core.Bool.{false, _&&_, and-false, and-eq-true-iff}
 use mathlib.Core.List.{[], _∷_}

@@ -1,4 +1,4 @@
--- `metrics::reports::process::least_of` meets its contract. Assumes nothing.
+-- `metrics::reports::process::least_of` meets its contract.
 use Rattle.metrics.proofs.reports.process.least_of.Statement.{statement}
 use Rattle.metrics.proofs.reports.process.least_of.Tie as tie
 

@@ -1,4 +1,4 @@
--- `metrics::reports::process::near_us` meets its contract. Assumes nothing.
+-- `metrics::reports::process::near_us` meets its contract.
 use mir.Syntax.{w64}
 use mir.Facts.{toZ-ofZ}
 use Rattle.metrics.proofs.WellWithin.{trip-near}

@@ -1,4 +1,4 @@
--- `receiver::frames::record::reference_ms` meets its contract. Assumes nothing.
+-- `receiver::frames::record::reference_ms` meets its contract.
 use borrow.Author.Needs.{needs}
 use Rattle.receiver.proofs.frames.record.reference_ms.Statement.{statement}
 use Rattle.receiver.proofs.frames.record.reference_ms.Tie as tie
