@@ -14,11 +14,26 @@ use Rattle.algorithms.specs.Ewma as ewma
 use Rattle.algorithms.specs.Srtt as estimator
 use Rattle.figures.specs.Goodput.{goodputOk}
 use Rattle.figures.specs.RoundTrips.{talliesOk}
-use Rattle.metrics.specs.State.{trendsOk, ratiosOk, keepsRule, Kept, refusalOf}
+use Rattle.metrics.specs.State.{trendsOk, ratiosOk, keepsRule, refusalOf}
 use Rattle.metrics.specs.Reports.{counted, Room, processRefusal}
 use Rattle.metrics.specs.declared.MmpMetrics.{MmpMetrics}
 
 -- ---- the rule
+-- its clauses by name
+pub record Kept (m : MmpMetrics) : Type 0 where
+  pub clock : optionalClockOk (m .«prev_rr_ms») ≡ true
+  pub round-trip : estimator.keepsRule (m .srtt) ≡ true
+  pub rtt-trend : ewma.keepsRule (m .«rtt_trend») ≡ true
+  pub loss-trend : ewma.keepsRule (m .«loss_trend») ≡ true
+  pub goodput-trend : ewma.keepsRule (m .«goodput_trend») ≡ true
+  pub jitter-trend : ewma.keepsRule (m .«jitter_trend») ≡ true
+  pub etx-trend : ewma.keepsRule (m .«etx_trend») ≡ true
+  pub forward : ratioOk (m .«delivery_ratio_forward») ≡ true
+  pub reverse : ratioOk (m .«delivery_ratio_reverse») ≡ true
+  pub etx : etxOk (m .etx) ≡ true
+  pub goodput : goodputOk (m .«goodput_bps») ≡ true
+  pub tallies : talliesOk (m .«reports_seen») (m .«rtt_samples») (m .«rtt_zero») (m .«rtt_arith_fail») ≡ true
+
 -- four clauses
 record Four (a b c d : Bool) : Type 0 where
   first : a ≡ true
