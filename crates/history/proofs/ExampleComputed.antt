@@ -1,5 +1,5 @@
 -- The worked history of specs/Example, computed.
-use mathlib.Core.Path.{_≡_, refl}
+use mathlib.Core.Path.{refl}
 use lib.Ieee as ieee
 use Rattle.floats.specs.Operations as floats
 use Rattle.numbers.specs.RoundTrip as numbers

@@ -1,5 +1,7 @@
 pub mod Runs
-pub mod Reached
+pub mod Held
+pub mod ReportsBuilt
+pub mod StruckOut
 pub mod RefusedStays
 pub mod RoundTripsAgree
 pub mod RoundTripTied

@@ -11,7 +11,6 @@ use Rattle.figures.specs.declared.RoundTrip.the-variants.{NoEcho, Sample, Zero,
 use Rattle.metrics.specs.Reports.{counted, rttLog, outcomeOf}
 use Rattle.metrics.specs.declared.MmpMetrics.{MmpMetrics}
 use Rattle.metrics.specs.declared.Outcome.{Outcome}
-use Rattle.metrics.specs.declared.ReportProcessed.{ReportProcessed}
 use Rattle.metrics.specs.declared.RrLog.{RrLog}
 use Rattle.metrics.specs.declared.RrLog.the-variants as log
 use Rattle.metrics.proofs.ReportsByCase.{by-case}

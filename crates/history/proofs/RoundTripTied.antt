@@ -1,7 +1,7 @@
 -- A metrics record's SRTT and RTTVAR are the estimates of the round trips that the calls on it took, the report that it keeps is the one that its log keeps,
 -- and its reports seen are those processed.
 use mathlib.Core.Path.{_≡_, refl, sym, _∙_, ap}
-use mathlib.Core.Bool.{Bool, true, false}
+use mathlib.Core.Bool.{Bool}
 use mathlib.Core.List.{List, [], _∷_, _++_, map-append, foldl, foldl-append}
 use Prim.Native.Nat.{ℕ, _+_, _*_}
 use Rattle.numbers.specs.RoundTrip.{multiples, no-estimate, estimateStep, estimateOf}

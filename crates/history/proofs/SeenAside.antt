@@ -1,7 +1,7 @@
 -- A metrics record that has seen fewer reports answers and moves as it would have otherwise, and its count stays lower by as many.
 use mathlib.Core.Path.{_≡_, refl, sym, subst, _∙_, ap}
 use mathlib.Core.Logic.{_≢_}
-use mathlib.Core.Bool.{Bool, true, false, cond, _&&_}
+use mathlib.Core.Bool.{Bool, true, false, _&&_}
 use mathlib.Core.List.{List, [], _∷_}
 use Prim.Native.Nat.{ℕ, _+_, _≤_, _^_}
 use native.Mathlib.Omega.{arith}
@@ -18,7 +18,7 @@ use Rattle.figures.specs.declared.RoundTrip.{RoundTrip}
 use Rattle.figures.specs.declared.RoundTrip.the-variants.{NoEcho, Sample, Zero, ArithFail}
 use Rattle.metrics.specs.Fields.{Tallies, talliesIn, withSeen}
 use Rattle.metrics.specs.State.{trendsOk, ratiosOk, keepsRule, savedIn, refusalOf}
-use Rattle.metrics.specs.Reports.{counted, sampled, rttUpdated, newerState, refused, processRefusal, processOf}
+use Rattle.metrics.specs.Reports.{counted, sampled, rttUpdated, newerState, processRefusal, processOf}
 use Rattle.metrics.specs.Updates.{rekeyed, rekeyOf, reversed, reverseOf}
 use Rattle.metrics.specs.Accessors.{
   countersKept,

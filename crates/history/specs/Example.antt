@@ -2,7 +2,7 @@
 -- and frames before a rekey, in its grace and after it, then a report built, encoded and decoded. `Worked` says what comes of it; proofs/ computes it.
 -- Definitions only.
 use mathlib.Core.Path.{_≡_}
-use mathlib.Core.Bool.{Bool, true, false}
+use mathlib.Core.Bool.{true, false}
 use mathlib.Core.List.{List, [], _∷_, _++_, map}
 use Prim.Native.Nat.{ℕ}
 use lib.IntN.{pos, negsuc}
