@@ -48,7 +48,7 @@ served-or-full : (n : ℕ) → (eqb n 0 || eqb n 10) ≡ true → Served n
 served-or-full n h = go (eqb n 0) (eqb n 10) (eqb-true n 0) (eqb-true n 10) h
   where
     go : (a b : Bool) → (a ≡ true → n ≡ 0) → (b ≡ true → n ≡ 10) → (a || b) ≡ true → Served n
-    go true b f g e = rw (f refl) Served.accepted
+    go true b f g e = rw (f refl) Served.answered
     go false true f g e = rw (g refl) Served.counter-full
     go false false f g e = let z : _≡_ {A = ℕ} 0 1 = cc in absurd (omega arith)
 
@@ -64,7 +64,7 @@ pub by-questions : {yes : Bool} (qs : List Question) → yesTo one qs ≡ true �
 by-questions qs rule h = record { not-by-rule = not-one qs rule; served-if-yes = λ y. served qs (h y) }
 
 pub never-refused : {yes : Bool} → Lawful yes 0
-never-refused = record { not-by-rule = λ e. absurd (omega arith); served-if-yes = λ y. Served.accepted }
+never-refused = record { not-by-rule = λ e. absurd (omega arith); served-if-yes = λ y. Served.answered }
 
 -- ---- what document 01's own ranges say of the code's
 pub clock-yes : (ms : ℕ) → paper.clock ms ≡ true → clockOk ms ≡ true

@@ -25,7 +25,7 @@ pub record SenderHeld (k : SenderNew) (l : List SenderCall) (s : SenderState) : 
 pub record ReceiverHeld (k : ReceiverNew) (l : List ReceiverCall) (s : ReceiverState) : Type 0 where
   pub alone : s ≡ runOf receiverStep (newReceiver k) l
   pub rule : rules.Receiving s
-  pub jitter : jitters.Tied (jitters.soundsOf l) s
+  pub jitter : jitters.Tied (jitters.exactOf l) s
   pub capacity : s .«owd_trend» .capacity ≡ capacityOf k
 
 pub record MetricsHeld (k : MetricsNew) (l : List MetricsCall) (m : MmpMetrics) : Type 0 where

@@ -17,8 +17,7 @@ use Rattle.history.specs.Run.{Entry, All, entry, notFull, callsLeft, asT
 use Rattle.history.specs.ExactRoundTrip as exact
 use Rattle.history.specs.Ends.{End, EndNew, EndCall, on-sender, on-receiver, on-metrics, endStep, Log, Side, Two, at, put, Call, ends}
 use Rattle.history.specs.Asked.{capacityOf, endYes}
-use Rattle.history.specs.NoCreep as statement
-use Rattle.history.specs.NoCreep.{begun, noneYet, written, reached, accepted, NotByRule, ServedIfYes, recorded, Between, FiguresHold, ReportHolds, staleOnEnd, unlessRefused, staleEntry, oneMore, noneStruck, struckOut, restore, NoCreepHolds}
+use Rattle.history.specs.NoCreep.{begun, noneYet, written, reached, accepted, NotByRule, ServedIfYes, recorded, Between, FiguresHold, ReportHolds, endStale, unlessRefused, staleEntry, oneMore, noneStruck, entriesLeft, struckOut, restore, NoCreepHolds}
 use Rattle.history.proofs.Runs.{tied-run, all-run, strike-run}
 use Rattle.history.proofs.RefusedStays.{stays}
 use Rattle.history.proofs.Asked.{Lawful}
@@ -97,7 +96,7 @@ module _ (k : Two EndNew) where
       s : Side
       s = c .side
 
-      go : (n : ℕ) → ends .step c w .refusal ≡ n → unlessRefused n (staleOnEnd (c .call) (at s x)) ≡ true → Alike (oneMore c t) (ends .step c w .state) v
+      go : (n : ℕ) → ends .step c w .refusal ≡ n → unlessRefused n (endStale (c .call) (at s x)) ≡ true → Alike (oneMore c t) (ends .step c w .state) v
       go zero z st = put-at (λ u d e. Like d e (at u v)) s t w (stale-idle (c .call) (at s t) (at s k) (at s x) (at s w) (at s v) (r s) (l s) z st) l
       go (suc n) z st = let z : _≡_ {A = ℕ} 0 1 = cc in absurd (omega arith)
 
@@ -111,8 +110,8 @@ module _ (k : Two EndNew) (h : List Call) (fits : All (ends .Fits) h) where
 
   module _ (places : ℕ → Bool) (full : All (notFull ends) (written k h)) where
     struck :
-        (restored ends restore (statement.left k places h) (written k (callsLeft ends (statement.left k places h))) ≡ asTheyWere ends (statement.left k places h))
-        × Alike (struckOut k places h) (reached k h) (reached k (callsLeft ends (statement.left k places h)))
+        (restored ends restore (entriesLeft k places h) (written k (callsLeft ends (entriesLeft k places h))) ≡ asTheyWere ends (entriesLeft k places h))
+        × Alike (struckOut k places h) (reached k h) (reached k (callsLeft ends (entriesLeft k places h)))
     struck =
         let r = strike-run ends stays (Both k) (both-next k) oneMore staleEntry restore Alike
         (λ c t w v l ne. let s = c .side in refusal-alike (c .call) (at s t) (at s w) (at s v) (l s) ne)
@@ -132,6 +131,6 @@ no-creep k h fits =
       reports = every k h fits ReportHolds (λ c x w e. let s = c .side in end-builds-near (c .call) (at s x) (at s w) (e s .receiver .jitter));
       answers = λ places full. struck k h fits places full .0;
       records = λ places full s.
-          let calls = callsLeft ends (statement.left k places h) in
+          let calls = callsLeft ends (entriesLeft k places h) in
           records-restored (at s (struckOut k places h)) (at s (reached k h)) (at s (reached k calls)) (struck k h fits places full .1 s);
     }

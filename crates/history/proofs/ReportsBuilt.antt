@@ -42,7 +42,7 @@ metrics-build-none MetricsCall.«reports_seen» m rr e = clash cc
 metrics-build-none (MetricsCall.ask q) m rr e = clash cc
 
 -- of a receiver's calls build_report alone answers one, and it is near
-receiver-builds-near : (c : ReceiverCall) (s : ReceiverState) (l : List ReceiverCall) (rr : ReceiverReport) → jitters.Tied (jitters.soundsOf l) s → receiverStep c s .answer ≡ Answer.receiver-report true rr →
+receiver-builds-near : (c : ReceiverCall) (s : ReceiverState) (l : List ReceiverCall) (rr : ReceiverReport) → jitters.Tied (jitters.exactOf l) s → receiverStep c s .answer ≡ Answer.receiver-report true rr →
     (rr .jitter < 2 ^ 32) × ReportedNear (jitterAverage l) (rr .jitter)
 unfolding receiverStep
 receiver-builds-near (ReceiverCall.«record_frame» f sampled) s l rr t e = clash cc
@@ -54,9 +54,9 @@ receiver-builds-near (ReceiverCall.«update_report_interval_with_bounds» srtt l
 receiver-builds-near (ReceiverCall.ask q) s l rr t e = clash cc
 
 decoded-near : (a : JitterAverage) (rr : ReceiverReport) (out : List ℕ) → rr .jitter < 2 ^ 32 → ReportedNear a (rr .jitter) → encodeAnswer out ≡ 0 → JitterHolds a rr out
-decoded-near a rr out fits near room = let d = jitter-back rr out fits room in record { taken = d .0; near = rw (d .1) (near .within) }
+decoded-near a rr out fits near room = let d = jitter-back rr out fits room in record { decodes = d .0; near = rw (d .1) (near .within) }
 
-pub end-builds-near : (c : EndCall) (x : Log) (e : End) → jitters.Tied (jitters.soundsOf (x .receiver)) (e .receiver) → (rr : ReceiverReport) → endStep c e .answer ≡ Answer.receiver-report true rr →
+pub end-builds-near : (c : EndCall) (x : Log) (e : End) → jitters.Tied (jitters.exactOf (x .receiver)) (e .receiver) → (rr : ReceiverReport) → endStep c e .answer ≡ Answer.receiver-report true rr →
     (out : List ℕ) → encodeAnswer out ≡ 0 → JitterHolds (jitterAverage (x .receiver)) rr out
 end-builds-near (on-sender c) x e t rr same out room = absurd (sender-builds-none c (e .sender) rr same)
 end-builds-near (on-receiver c) x e t rr same out room =

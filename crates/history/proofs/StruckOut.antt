@@ -10,7 +10,7 @@ use Rattle.history.specs.SenderCalls.{senderStep}
 use Rattle.history.specs.ReceiverCalls.{receiverStep}
 use Rattle.history.specs.MetricsCalls.{newMetrics}
 use Rattle.history.specs.Ends.{End, EndNew, newEnd, EndCall, on-sender, on-receiver, on-metrics, endStep, Log}
-use Rattle.history.specs.NoCreep.{staleOnEnd, restoreEnd, restoreRecords}
+use Rattle.history.specs.NoCreep.{endStale, restoreEnd, restoreRecords}
 use Rattle.history.proofs.RulesKept.{new-metrics}
 use Rattle.history.proofs.Held.{Held}
 use Rattle.history.proofs.SeenAside as seen
@@ -40,7 +40,7 @@ state-alike (on-receiver c) d e f h y z = record { sender = h .sender; receiver 
 state-alike (on-metrics c) d e f h y z = record { sender = h .sender; receiver = h .receiver; metrics = seen.state-alike c (e .metrics) (f .metrics) (h .metrics) y z }
 
 -- a stale report leaves one more to see
-pub stale-idle : (c : EndCall) (d : ℕ) (k : EndNew) (x : Log) (e f : End) → Held k x e → Like d e f → endStep c e .refusal ≡ 0 → staleOnEnd c x ≡ true → Like (d + 1) (endStep c e .state) f
+pub stale-idle : (c : EndCall) (d : ℕ) (k : EndNew) (x : Log) (e f : End) → Held k x e → Like d e f → endStep c e .refusal ≡ 0 → endStale c x ≡ true → Like (d + 1) (endStep c e .state) f
 stale-idle (on-sender c) d k x e f r h z st = let z : _≡_ {A = ℕ} 0 1 = cc in absurd (omega arith)
 stale-idle (on-receiver c) d k x e f r h z st = let z : _≡_ {A = ℕ} 0 1 = cc in absurd (omega arith)
 stale-idle (on-metrics c) d k x e f r h z st =
