@@ -83,12 +83,6 @@ reverse-keeps-rule m packets highest p l f h =
 
 -- ---- a report
 -- one more report, and at most one more sample, zero or failure
-counted-tallied : (m : MmpMetrics) → Tallied m → Tallied (counted m)
-unfolding counted
-counted-tallied m t =
-    let l = leb-true (m .«rtt_samples» + m .«rtt_zero» + m .«rtt_arith_fail») (m .«reports_seen») t in
-    le-leb (m .«rtt_samples» + m .«rtt_zero» + m .«rtt_arith_fail») (m .«reports_seen» + 1) (omega arith)
-
 trip-tallied : (m : MmpMetrics) (t : RoundTrip) → Tallied m → Tallied (rttUpdated (counted m) t)
 unfolding rttUpdated sampled counted
 trip-tallied m t h = go t (leb-true (m .«rtt_samples» + m .«rtt_zero» + m .«rtt_arith_fail») (m .«reports_seen») h)
@@ -109,10 +103,11 @@ module _ (m : MmpMetrics) (rr : ReceiverReport) (ours now : ℕ) (f : Floats m) 
 
   -- stale or not
   pub process-keeps-rule : processOf m rr ours now .refusal ≡ 0 → keepsRule (processOf m rr ours now .state) ≡ true
+  unfolding rttUpdated
   process-keeps-rule e =
       by-case m rr ours now (λ p. keepsRule (p .state) ≡ true)
       (λ h. absurd (h (rw (process-refusal m rr ours now) at e)))
-      (λ h s. let y = rule.process-asked m now h in keeps (counted m) (counted-in-range m (figures m f (y .rule))) (counted-tallied m (rule.kept m (y .rule) .tallies)))
+      (λ h s. let y = rule.process-asked m now h in keeps (counted m) (counted-in-range m (figures m f (y .rule))) (trip-tallied m NoEcho (rule.kept m (y .rule) .tallies)))
       (λ h s. keeps (newerState (counted m) rr ours now) (newer-within h) (newer-tallied m rr ours now (rule.kept m (rule.process-asked m now h .rule) .tallies)))
 
   pub process-floats : Floats (processOf m rr ours now .state)

@@ -4,8 +4,6 @@ use mathlib.Core.Path.{_≡_, refl, ap, _∙_}
 use mathlib.Core.Bool.{Bool, true, false, cond, not, _&&_}
 use Prim.Native.Nat.{ℕ, _-_}
 use lib.Dec.{ltb}
-use lib.Ieee.{Float}
-use Rattle.figures.specs.Delivery.{deliveryRatio}
 use Rattle.figures.specs.RoundTrips.{roundTrip}
 use Rattle.figures.specs.declared.RoundTrip.{RoundTrip}
 use Rattle.figures.specs.declared.RoundTrip.the-variants.{NoEcho, Sample, Zero, ArithFail}
@@ -14,6 +12,11 @@ use Rattle.metrics.specs.Fields.{withSeen, withReverse}
 use Rattle.metrics.specs.Updates.{rekeyed, withReverseRatio, reverseMoved, reversed}
 use Rattle.metrics.specs.Reports.{sampled, rttUpdated, rttLog, withForward, deliveryUpdated, withBytes, goodputUpdated, jitterTrendUpdated, countersSaved, trafficUpdated, newerState, newerOutcome, outcomeOf}
 use Rattle.metrics.specs.declared.MmpMetrics.{MmpMetrics}
+
+-- a choice of two
+either-apart : (seen : ℕ) (b : Bool) (n m : MmpMetrics) → cond b (withSeen n seen) (withSeen m seen) ≡ withSeen (cond b n m) seen
+either-apart seen true n m = refl
+either-apart seen false n m = refl
 
 module _ (m : MmpMetrics) (seen : ℕ) where
   -- ---- the stages
@@ -33,19 +36,11 @@ module _ (m : MmpMetrics) (seen : ℕ) where
 
   delivery-apart : (rr : ReceiverReport) → deliveryUpdated (withSeen m seen) rr ≡ withSeen (deliveryUpdated m rr) seen
   unfolding deliveryUpdated
-  delivery-apart rr = go (m .«has_prev_rr» && ltb 0 (rr .«highest_counter» - m .«prev_rr_highest_counter»)) (deliveryRatio (rr .«cumulative_packets_recv» - m .«prev_rr_cum_packets») (rr .«highest_counter» - m .«prev_rr_highest_counter»))
-    where
-      go : (b : Bool) (x : Float) → cond b (withForward (withSeen m seen) x) (withSeen m seen) ≡ withSeen (cond b (withForward m x) m) seen
-      go true x = refl
-      go false x = refl
+  delivery-apart rr = either-apart seen (m .«has_prev_rr» && ltb 0 (rr .«highest_counter» - m .«prev_rr_highest_counter»)) (withForward m _) m
 
   goodput-apart : (rr : ReceiverReport) (now : ℕ) → goodputUpdated (withSeen m seen) rr now ≡ withSeen (goodputUpdated m rr now) seen
   unfolding goodputUpdated
-  goodput-apart rr now = go (m .«has_prev_rr») (rr .«cumulative_bytes_recv» - m .«prev_rr_cum_bytes»)
-    where
-      go : (b : Bool) (bytes : ℕ) → cond b (withBytes (withSeen m seen) bytes now) (withSeen m seen) ≡ withSeen (cond b (withBytes m bytes now) m) seen
-      go true bytes = refl
-      go false bytes = refl
+  goodput-apart rr now = either-apart seen (m .«has_prev_rr») (withBytes m _ now) m
 
   later-apart : (rr : ReceiverReport) (now : ℕ) → countersSaved (jitterTrendUpdated (withSeen m seen) rr) rr now ≡ withSeen (countersSaved (jitterTrendUpdated m rr) rr now) seen
   unfolding countersSaved jitterTrendUpdated
@@ -74,9 +69,6 @@ rekeyed-apart m seen = refl
 
 pub reversed-apart : (m : MmpMetrics) (seen packets highest : ℕ) → reversed (withSeen m seen) packets highest ≡ withSeen (reversed m packets highest) seen
 unfolding reversed reverseMoved
-reversed-apart m seen packets highest = go (m .«has_prev_reverse» && ltb 0 (highest - m .«prev_reverse_highest»)) (deliveryRatio (packets - m .«prev_reverse_packets») (highest - m .«prev_reverse_highest»))
-  where
-    go : (b : Bool) (x : Float)
-        → withReverse (cond b (withReverseRatio (withSeen m seen) x) (withSeen m seen)) (record { packets = packets; highest = highest; has = true }) ≡ withSeen (withReverse (cond b (withReverseRatio m x) m) (record { packets = packets; highest = highest; has = true })) seen
-    go true x = refl
-    go false x = refl
+reversed-apart m seen packets highest =
+    ap (λ n. withReverse n (record { packets = packets; highest = highest; has = true }))
+    (either-apart seen (m .«has_prev_reverse» && ltb 0 (highest - m .«prev_reverse_highest»)) (withReverseRatio m _) m)
