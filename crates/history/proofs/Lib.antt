@@ -17,7 +17,6 @@ pub mod NoCreepHolds
 pub mod RekeySaid
 pub mod LogSaid
 pub mod ExampleComputed
-pub mod Tellings
 pub mod SenderRows
 pub mod ReceiverRows
 pub mod MetricsRows
