@@ -1,7 +1,7 @@
 -- What the joined tests of a report show of each question.
 -- Assumes nothing.
 use mathlib.Core.Path.{_≡_, refl, sym, _∙_}
-use mathlib.Core.Bool.{Bool, true, not, _&&_, and-eq-true-iff}
+use mathlib.Core.Bool.{Bool, true, not, _&&_}
 use mathlib.Core.List.{List, [], _∷_, foldl}
 use Prim.Native.Nat.{ℕ, _+_, _^_}
 use native.Mathlib.Omega.{arith}
@@ -18,6 +18,7 @@ use Rattle.floats.proofs.Ranges.{within→in-range}
 use Rattle.floats.proofs.SumsGrow.{addends-within, sum-not-negative, addends-numbers, lesser-number, lesser-not-negative}
 use Rattle.refusals.specs.Questions.{question}
 use Rattle.refusals.specs.Ranges.{maxClock, maxTrend, maxEtx, clockOk, optionalClockOk, roundTripOk, counterOk}
+use Rattle.refusals.proofs.Clauses.{left, right}
 use Rattle.refusals.proofs.FirstNoFound.{none-refuses}
 use Rattle.algorithms.specs.Ewma as ewma
 use Rattle.algorithms.specs.Srtt as estimator
@@ -27,9 +28,7 @@ use Rattle.figures.specs.RoundTrips.{talliesOk}
 use Rattle.metrics.specs.State.{trendsOk, ratiosOk, keepsRule}
 use Rattle.metrics.specs.Reports.{processRefusal}
 use Rattle.metrics.specs.declared.MmpMetrics.{MmpMetrics}
-
-both : (a b : Bool) → (a && b) ≡ true → (a ≡ true) × (b ≡ true)
-both a b h = and-eq-true-iff a b .0 h
+use Rattle.metrics.proofs.QuestionsAnswered.{clauses}
 
 -- ---- floats added up, and the least of them
 abbrev sum : Float → List Float → Float
@@ -182,9 +181,8 @@ near ms h = let l = ltb-true ms far h in le-leb ms maxClock (omega (arith, l))
 
 pub trip-near : (us : ℤ) → (leZ (pos 0) us && leZ us (pos 4398046511103)) ≡ true → roundTripOk us ≡ true
 trip-near (pos n) h =
-    let l = both (leb 0 n) (leb n 4398046511103) h in
-    let m = leb-true n 4398046511103 (l .1) in
-    rw (l .0, le-leb n (2 ^ 42) (omega (arith, m))) refl
+    let m = leb-true n 4398046511103 (right (leb 0 n) (leb n 4398046511103) h) in
+    rw (left (leb 0 n) (leb n 4398046511103) h, le-leb n (2 ^ 42) (omega (arith, m))) refl
 trip-near (negsuc n) h = h
 
 abbrev pub Numbers : MmpMetrics → ℕ → Type 0
@@ -202,13 +200,9 @@ pub numbers-near : (m : MmpMetrics) (now prev : ℕ) (smoothed variation tallies
     → Numbers m now
 numbers-near m now prev smoothed variation tallies p s t h =
     let seen = m .«reports_seen» in
-    let e = both (ltb prev far && ltb now far && ltb seen far && smoothed && variation) tallies h in
-    let d = both (ltb prev far && ltb now far && ltb seen far && smoothed) variation (e .0) in
-    let c = both (ltb prev far && ltb now far && ltb seen far) smoothed (d .0) in
-    let b = both (ltb prev far && ltb now far) (ltb seen far) (c .0) in
-    let a = both (ltb prev far) (ltb now far) (b .0) in
-    let few = ltb-true seen far (b .1) in
-    (sym p ∙ near prev (a .0), s (c .1) (d .1), sym t ∙ e .1, near now (a .1), lt-ltb (seen + 1) (2 ^ 64) (omega (arith, few)))
+    let y = clauses (ltb prev far) (ltb now far ∷ ltb seen far ∷ smoothed ∷ variation ∷ tallies ∷ []) h in
+    let few = ltb-true seen far (y .1 .1 .0) in
+    (sym p ∙ near prev (y .0), s (y .1 .1 .1 .0) (y .1 .1 .1 .1 .0), sym t ∙ y .1 .1 .1 .1 .1 .0, near now (y .1 .0), lt-ltb (seen + 1) (2 ^ 64) (omega (arith, few)))
 
 -- ---- all of them
 rule-kept : (m : MmpMetrics) (now : ℕ) → (trendsOk m ≡ true) × (ratiosOk m ≡ true) → Numbers m now → keepsRule m ≡ true

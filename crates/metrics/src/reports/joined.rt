@@ -1,5 +1,5 @@
-// Joined tests, which only make `process_receiver_report` fast: one yes answers every question of an ordinary report. Where they say no, the questions are put
-// one by one.
+// Joined tests, for the speed of `process_receiver_report` alone: they answer all questions of an ordinary report at once. Where one says no, the questions are
+// put one by one.
 
 ghost use mathlib.Core.Path.{_≡_};
 ghost use mathlib.Core.Bool.{true};

@@ -1,4 +1,4 @@
-// A report that says nothing new.
+// A stale report: one of its counters fell below the report kept, or it is the same again.
 
 ghost use mathlib.Core.Path.{_≡_};
 ghost use Rattle.figures.specs.Stale.{stale};
