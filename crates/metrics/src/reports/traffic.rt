@@ -18,7 +18,10 @@ impl MmpMetrics {
         ensures { λ r. ⌜ r ≡ deliveryUpdated self rr ⌝ }
     {
         let counter_span = saturating_sub_u64(rr.highest_counter, self.prev_rr_highest_counter);
-        let packets_delta = saturating_sub_u64(rr.cumulative_packets_recv, self.prev_rr_cum_packets);
+        let packets_delta = saturating_sub_u64(
+            rr.cumulative_packets_recv,
+            self.prev_rr_cum_packets,
+        );
         if self.has_prev_rr & (0 < counter_span) {
             let ratio = delivery_ratio_unchecked(packets_delta, counter_span);
             let loss_trend = self.loss_trend.update_unchecked(one_minus(ratio));
