@@ -8,11 +8,12 @@ use lib.Dec.{eqb}
 use lib.IntN.{ℤ}
 use Rattle.algorithms.specs.Owd.{window}
 use Rattle.algorithms.specs.OwdTrend.{trendOf}
+use Rattle.pace.specs.Updates.{coldStartRefusal}
 use Rattle.gaps.proofs.RuleKept.{observed-fits, stats-fit}
-use Rattle.receiver.specs.State.{Fits, grace, startedAt, fresh, newRefusal, newOf, clockRefusal, updated, rekeyed, rekeyOf}
+use Rattle.receiver.specs.State.{Fits, grace, startedAt, fresh, newOf, clockRefusal, updated, rekeyed, rekeyOf}
 use Rattle.receiver.specs.Frames.{counted, measured, unmeasured, pushes, taken, frameRefusal, frameOf}
 use Rattle.receiver.specs.Reports.{someBuilt, noneBuilt, built, reportRefusal, builtOf}
-use Rattle.receiver.specs.Pacing.{paced, countedPace, fromSrttRefusal, fromSrttOf, withBoundsRefusal, withBoundsOf}
+use Rattle.receiver.specs.Pacing.{fromSrttOf, withBoundsOf}
 use Rattle.receiver.specs.declared.ReceiverState.{ReceiverState}
 
 updated-fits : (n : ℕ) (s t : ReceiverState) → Fits s → Fits t → Fits (updated n s t .state)
@@ -25,7 +26,7 @@ updated-fits n s t hs ht = go (eqb n 0)
 -- ---- a new record, a rekey
 pub new-fits : (window ms : ℕ) → Fits (newOf window ms .state)
 unfolding newOf
-new-fits window ms = go (eqb (newRefusal ms) 0)
+new-fits window ms = go (eqb (coldStartRefusal ms) 0)
   where
     go : (b : Bool) → Fits (cond b (startedAt window ms) fresh)
     go true = omega arith
@@ -63,9 +64,9 @@ report-fits s times delays now h = go (eqb (reportRefusal s times delays now) 0)
 
 -- ---- the interval
 pub from-srtt-fits : (s : ReceiverState) (srtt : ℤ) → Fits s → Fits (fromSrttOf s srtt .state)
-unfolding fromSrttOf countedPace paced
-from-srtt-fits s srtt h = updated-fits (fromSrttRefusal s srtt) s (countedPace s srtt) h h
+unfolding fromSrttOf
+from-srtt-fits s srtt h = h
 
 pub with-bounds-fits : (s : ReceiverState) (srtt : ℤ) (lo hi : ℕ) → Fits s → Fits (withBoundsOf s srtt lo hi .state)
-unfolding withBoundsOf paced
-with-bounds-fits s srtt lo hi h = updated-fits (withBoundsRefusal s srtt lo hi) s (paced s srtt lo hi (s .«srtt_sample_count»)) h h
+unfolding withBoundsOf
+with-bounds-fits s srtt lo hi h = h

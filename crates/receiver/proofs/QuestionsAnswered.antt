@@ -1,23 +1,22 @@
 -- What the rule says by its clauses, and what a call that nothing refuses knows of its record and its arguments.
 -- Assumes nothing.
 use mathlib.Core.Path.{_≡_, refl}
-use mathlib.Core.Bool.{Bool, true, _&&_, and-eq-true-iff}
+use mathlib.Core.Bool.{Bool, true, _&&_}
 use mathlib.Core.List.{List, [], _∷_}
 use Prim.Native.Nat.{ℕ, _≤_}
 use lib.IntN.{ℤ}
 use lib.ListN.{length}
 use borrow.Author.Tests.{leb-true}
 use Rattle.refusals.specs.Questions.{question}
-use Rattle.refusals.specs.Ranges.{maxClock, clockOk, optionalClockOk, smoothedOk, boundsOk}
+use Rattle.refusals.specs.Ranges.{maxClock, clockOk, optionalClockOk}
 use Rattle.refusals.proofs.Clauses.{left, right}
 use Rattle.refusals.proofs.FirstNoFound.{each-yes}
 use Rattle.algorithms.specs.Jitter as jitters
 use Rattle.algorithms.specs.Owd as owds
 use Rattle.gaps.specs.Gaps as gaps
 use Rattle.samples.specs.Delay.{referenceOk}
-use Rattle.receiver.specs.State.{graceOk, reordersOk, keepsRule, Kept, newRefusal, clockRefusal}
+use Rattle.receiver.specs.State.{graceOk, reordersOk, keepsRule, Kept, clockRefusal}
 use Rattle.receiver.specs.Reports.{reportRefusal}
-use Rattle.receiver.specs.Pacing.{fromSrttRefusal, withBoundsRefusal}
 use Rattle.receiver.specs.declared.ReceiverState.{ReceiverState}
 
 -- ---- the rule
@@ -70,10 +69,6 @@ module _ (s : ReceiverState) where
   keeps k = rw (k .last-recv, k .last-report, k .interval, k .deadline, k .jitter, k .window, k .reference, k .tracker, k .reorders)
 
 -- ---- the questions of each call
-pub new-asked : (ms : ℕ) → newRefusal ms ≡ 0 → clockOk ms ≡ true
-unfolding newRefusal
-new-asked ms h = each-yes (question 2 (clockOk ms) ∷ []) refl h .0
-
 -- the rule, and the clock in range
 pub clock-asked : (s : ReceiverState) (now : ℕ) → clockRefusal s now ≡ 0 → (keepsRule s ≡ true) × (now ≤ maxClock)
 unfolding clockRefusal
@@ -85,15 +80,3 @@ unfolding reportRefusal
 report-asked s times delays now h =
     let y = each-yes (question 1 (keepsRule s) ∷ question 2 (clockOk now) ∷ question 4 (owds.windowsOk (s .«owd_trend») (length times) (length delays)) ∷ question 5 (owds.samplesOk (owds.window (s .«owd_trend») times delays)) ∷ []) refl h in
     (y .0, y .1 .0)
-
-pub from-srtt-asked : (s : ReceiverState) (srtt : ℤ) → fromSrttRefusal s srtt ≡ 0 → keepsRule s ≡ true
-unfolding fromSrttRefusal
-from-srtt-asked s srtt h = each-yes (question 1 (keepsRule s) ∷ question 8 (smoothedOk srtt) ∷ []) refl h .0
-
--- bounds of the caller's: the rule, and both bounds in range
-pub with-bounds-asked : (s : ReceiverState) (srtt : ℤ) (lo hi : ℕ) → withBoundsRefusal s srtt lo hi ≡ 0 → (keepsRule s ≡ true) × (lo ≤ maxClock) × (hi ≤ maxClock)
-unfolding withBoundsRefusal
-with-bounds-asked s srtt lo hi h =
-    let y = each-yes (question 1 (keepsRule s) ∷ question 2 (clockOk lo && clockOk hi) ∷ question 8 (smoothedOk srtt) ∷ question 9 (boundsOk srtt lo hi) ∷ []) refl h in
-    let bounds = and-eq-true-iff (clockOk lo) (clockOk hi) .0 (y .1 .0) in
-    (y .0, leb-true lo maxClock (bounds .0), leb-true hi maxClock (bounds .1))

@@ -8,23 +8,24 @@ use native.Mathlib.Omega.{arith}
 use lib.Dec.{leb, ltb, eqb}
 use lib.IntN.{ℤ}
 use borrow.Author.Tests.{le-leb, eqb-true, leb-true}
-use Rattle.numbers.specs.Intervals.{top, updateCounted, nextInterval}
-use Rattle.numbers.specs.Signs.{asUnsigned}
-use Rattle.numbers.proofs.IntervalAtMost.{next-at-most, floor-at-most}
 use Rattle.refusals.specs.Ranges.{maxClock, clockOk}
+use Rattle.pace.specs.Updates.{coldStartRefusal, fromSrtt, withBounds}
+use Rattle.pace.specs.declared.Paced.{Paced}
+use Rattle.pace.proofs.QuestionsAnswered.{cold-start-asked, from-srtt-asked, with-bounds-asked}
+use Rattle.pace.proofs.IntervalAtMost.{from-srtt-in-range, with-bounds-in-range}
 use Rattle.algorithms.proofs.OwdRuleKept as windows
 use Rattle.algorithms.specs.Owd.{window}
 use Rattle.algorithms.specs.OwdTrend.{trendOf}
 use Rattle.gaps.specs.Gaps.{burstsOk}
 use Rattle.gaps.proofs.RuleKept as trackers
 use Rattle.samples.proofs.SampleKeepsRule as samples
-use Rattle.receiver.specs.State.{grace, keepsRule, Fits, startedAt, fresh, newRefusal, newOf, rekeyed, rekeyOf}
+use Rattle.receiver.specs.State.{grace, keepsRule, Fits, startedAt, fresh, newOf, rekeyed, rekeyOf}
 use Rattle.receiver.specs.Frames.{reordersAfter, counted, measured, unmeasured, pushes, taken, frameOf}
 use Rattle.receiver.specs.Reports.{someBuilt, noneBuilt, built, reportRefusal, builtOf}
-use Rattle.receiver.specs.Pacing.{withPace, paced, countedPace, fromSrttOf, withBoundsOf}
+use Rattle.receiver.specs.Pacing.{withPace, fromSrttOf, withBoundsOf}
 use Rattle.receiver.specs.declared.ReceiverState.{ReceiverState}
 use Rattle.receiver.specs.declared.reports.ReceiverReportBuilt.{ReceiverReportBuilt}
-use Rattle.receiver.proofs.QuestionsAnswered.{kept, keeps, new-asked, clock-asked, report-asked, from-srtt-asked, with-bounds-asked}
+use Rattle.receiver.proofs.QuestionsAnswered.{kept, keeps, clock-asked, report-asked}
 use Rattle.receiver.proofs.FrameAsked.{frame-asked}
 
 -- ---- a new record
@@ -39,10 +40,10 @@ fresh-keeps-rule = started-keeps-rule 32 200 refl
 -- refused or not: a refused constructor gives the default
 pub new-keeps-rule : (window ms : ℕ) → keepsRule (newOf window ms .state) ≡ true
 unfolding newOf
-new-keeps-rule window ms = go (eqb (newRefusal ms) 0) refl
+new-keeps-rule window ms = go (eqb (coldStartRefusal ms) 0) refl
   where
-    go : (b : Bool) → eqb (newRefusal ms) 0 ≡ b → keepsRule (cond b (startedAt window ms) fresh) ≡ true
-    go true e = started-keeps-rule window ms (new-asked ms (eqb-true (newRefusal ms) 0 e))
+    go : (b : Bool) → eqb (coldStartRefusal ms) 0 ≡ b → keepsRule (cond b (startedAt window ms) fresh) ≡ true
+    go true e = started-keeps-rule window ms (cold-start-asked ms (eqb-true (coldStartRefusal ms) 0 e))
     go false e = fresh-keeps-rule
 
 -- ---- a rekey
@@ -177,31 +178,22 @@ report-keeps-rule s times delays now f e =
     rw h (report-ends-within s (trendOf (window (s .«owd_trend») times delays)) now f (y .0) (y .1))
 
 -- ---- the interval
-pace-keeps-rule : (s : ReceiverState) (srtt : ℤ) (lo hi updates : ℕ) → keepsRule s ≡ true → lo ≤ maxClock → hi ≤ maxClock → keepsRule (paced s srtt lo hi updates) ≡ true
-unfolding paced
-pace-keeps-rule s srtt lo hi updates h hl hh =
+pace-keeps-rule : (s : ReceiverState) (p : Paced) → keepsRule s ≡ true → clockOk (p .«report_interval_ms») ≡ true → keepsRule (withPace s p .state) ≡ true
+pace-keeps-rule s p h i =
     let k = kept s h in
-    let next = nextInterval (s .«report_interval_ms») (asUnsigned srtt) lo hi in
-    let now = leb-true (s .«report_interval_ms») maxClock (k .interval) in
-    keeps (withPace s next updates)
-    (record {
-      last-recv = k .last-recv;
-      last-report = k .last-report;
-      interval = le-leb next maxClock (next-at-most (s .«report_interval_ms») (asUnsigned srtt) lo hi maxClock now hl hh);
-      deadline = k .deadline;
-      jitter = k .jitter;
-      window = k .window;
-      reference = k .reference;
-      tracker = k .tracker;
-      reorders = k .reorders;
-    })
+    keeps (withPace s p .state)
+    (record { last-recv = k .last-recv; last-report = k .last-report; interval = i; deadline = k .deadline; jitter = k .jitter; window = k .window; reference = k .reference; tracker = k .tracker; reorders = k .reorders })
 
 pub from-srtt-keeps-rule : (s : ReceiverState) (srtt : ℤ) → fromSrttOf s srtt .refusal ≡ 0 → keepsRule (fromSrttOf s srtt .state) ≡ true
-unfolding fromSrttOf countedPace
-from-srtt-keeps-rule s srtt h = rw h (pace-keeps-rule s srtt _ top _ (from-srtt-asked s srtt h) (omega (arith, floor-at-most (updateCounted (s .«srtt_sample_count»)))) (omega arith))
+unfolding fromSrttOf fromSrtt
+from-srtt-keeps-rule s srtt h =
+    let rule = from-srtt-asked (keepsRule s) srtt h .0 in
+    pace-keeps-rule s (fromSrtt (keepsRule s) 1 (s .«report_interval_ms») (s .«srtt_sample_count») srtt) rule
+    (from-srtt-in-range (keepsRule s) 1 (s .«report_interval_ms») (s .«srtt_sample_count») srtt (kept s rule .interval))
 
 pub with-bounds-keeps-rule : (s : ReceiverState) (srtt : ℤ) (lo hi : ℕ) → withBoundsOf s srtt lo hi .refusal ≡ 0 → keepsRule (withBoundsOf s srtt lo hi .state) ≡ true
-unfolding withBoundsOf
+unfolding withBoundsOf withBounds
 with-bounds-keeps-rule s srtt lo hi h =
-    let y = with-bounds-asked s srtt lo hi h in
-    rw h (pace-keeps-rule s srtt lo hi (s .«srtt_sample_count») (y .0) (y .1) (y .2))
+    let rule = with-bounds-asked (keepsRule s) srtt lo hi h .rule in
+    pace-keeps-rule s (withBounds (keepsRule s) 1 (s .«report_interval_ms») (s .«srtt_sample_count») srtt lo hi) rule
+    (with-bounds-in-range (keepsRule s) 1 (s .«report_interval_ms») (s .«srtt_sample_count») srtt (kept s rule .interval) lo hi)

@@ -14,6 +14,7 @@ use Rattle.refusals.specs.declared.option.OptionU64.{OptionU64}
 use Rattle.refusals.specs.declared.option.OptionU64.the-variants as option
 use Rattle.algorithms.specs.Jitter as jitters
 use Rattle.algorithms.specs.Owd as owds
+use Rattle.pace.specs.Updates.{coldStartRefusal}
 use Rattle.gaps.specs.Gaps as gaps
 use Rattle.samples.specs.Delay.{referenceOk}
 use Rattle.samples.specs.declared.OwdReference.the-variants as reference
@@ -92,13 +93,9 @@ startedAt window ms =
 abbrev pub fresh : ReceiverState
 fresh = startedAt 32 200
 
--- document 01, the checks: question 2 alone
-unfoldable pub newRefusal : ℕ → ℕ
-newRefusal ms = firstNo (question 2 (clockOk ms) ∷ [])
-
 -- a cold-start interval of the caller's; "A refused constructor, given no state, returns the default one"
 unfoldable pub newOf : ℕ → ℕ → ReceiverNew
-newOf window ms = record { refusal = newRefusal ms; state = cond (eqb (newRefusal ms) 0) (startedAt window ms) fresh }
+newOf window ms = record { refusal = coldStartRefusal ms; state = cond (eqb (coldStartRefusal ms) 0) (startedAt window ms) fresh }
 
 -- ---- calls
 -- document 01, the checks: question 1 alone

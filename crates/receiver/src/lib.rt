@@ -9,6 +9,7 @@ ghost use Rattle.receiver.specs.State.{graceOk, keepsRule, refusalOf, st
 use algorithms::jitter::JitterEstimator;
 use algorithms::owd::OwdTrendDetector;
 use gaps::GapTracker;
+use pace::cold_start_refusal;
 use refusals::answer::AnswerOptionU64;
 use refusals::answer::AnswerU32;
 use refusals::answer::AnswerU64;
@@ -135,9 +136,7 @@ impl ReceiverState {
     pub fn new_with_cold_start(owd_window_size: usize, cold_start_ms: u64) -> ReceiverNew
         ensures { λ r. ⌜ r ≡ newOf «owd_window_size» «cold_start_ms» ⌝ }
     {
-        let mut q = Questions::all_yes();
-        q.clocks = clock_ok(cold_start_ms);
-        let refusal = q.first_no();
+        let refusal = cold_start_refusal(cold_start_ms);
         if refusal == 0 {
             let state = ReceiverState::started(owd_window_size, cold_start_ms);
             ReceiverNew { refusal, state }

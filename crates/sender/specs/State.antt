@@ -9,6 +9,7 @@ use Rattle.refusals.specs.Questions.{question, firstNo}
 use Rattle.refusals.specs.Ranges.{clockOk}
 use Rattle.refusals.specs.declared.answer.AnswerU32.{AnswerU32}
 use Rattle.refusals.specs.declared.answer.AnswerU64.{AnswerU64}
+use Rattle.pace.specs.Updates.{coldStartRefusal}
 use Rattle.sender.specs.declared.SenderState.{SenderState}
 use Rattle.sender.specs.declared.SenderNew.{SenderNew}
 use Rattle.sender.specs.declared.SenderUpdate.{SenderUpdate}
@@ -49,13 +50,9 @@ startedAt ms =
 abbrev pub fresh : SenderState
 fresh = startedAt 200
 
--- document 01, the checks: question 2 alone
-unfoldable pub newRefusal : ℕ → ℕ
-newRefusal ms = firstNo (question 2 (clockOk ms) ∷ [])
-
 -- a cold-start interval of the caller's; "A refused constructor, given no state, returns the default one"
 unfoldable pub newOf : ℕ → SenderNew
-newOf ms = record { refusal = newRefusal ms; state = cond (eqb (newRefusal ms) 0) (startedAt ms) fresh }
+newOf ms = record { refusal = coldStartRefusal ms; state = cond (eqb (coldStartRefusal ms) 0) (startedAt ms) fresh }
 
 -- document 01, the checks: question 1 alone
 unfoldable pub refusalOf : SenderState → ℕ
