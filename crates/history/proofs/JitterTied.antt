@@ -25,7 +25,7 @@ use Rattle.samples.specs.Transit.{inGrace, transit, jitterAfter}
 use Rattle.pace.specs.Updates.{coldStartRefusal, fromSrtt, withBounds}
 use Rattle.pace.specs.declared.Paced.{Paced}
 use Rattle.receiver.specs.State.{keepsRule, startedAt, fresh, newOf, rekeyed, rekeyOf}
-use Rattle.receiver.specs.Frames.{counted, measured, unmeasured, pushes, taken, frameOf}
+use Rattle.receiver.specs.Frames.{counted, timingSampled, echoIfSampled, pushes, withSample, frameOf}
 use Rattle.receiver.specs.Reports.{built, someBuilt, noneBuilt, reportOf, reportRefusal, builtOf}
 use Rattle.receiver.specs.Pacing.{withPace, fromSrttOf, withBoundsOf}
 use Rattle.receiver.specs.declared.ReceiverState.{ReceiverState}
@@ -103,8 +103,8 @@ unfolding counted
 counted-tied y s counter bytes ce h = record { jitter = h .jitter; last = h .last; grace = h .grace }
 
 sampled-tied : (y : Sounds) (s : ReceiverState) (timestamp now : ℕ) → Tied y s →
-    Tied (after (exact.sampled timestamp now) y) (taken s timestamp now true)
-unfolding taken pushes measured unmeasured exact.differencesBy exact.lastBy exact.graceBy
+    Tied (after (exact.sampled timestamp now) y) (withSample s timestamp now true)
+unfolding withSample pushes timingSampled echoIfSampled exact.differencesBy exact.lastBy exact.graceBy
 sampled-tied y s timestamp now h =
     rw (← h .grace, ← h .last, grace-agrees (s .«rekey_jitter_grace_until_ms») now) (go (inGrace (s .«rekey_jitter_grace_until_ms») now))
   where
@@ -115,14 +115,14 @@ sampled-tied y s timestamp now h =
           last = exact.frame now timestamp;
           grace = cond b (graceIn (s .«rekey_jitter_grace_until_ms»)) exact.no-grace;
         })
-        (cond (not b) (measured s timestamp now) (unmeasured s timestamp now true))
+        (cond (not b) (timingSampled s timestamp now) (echoIfSampled s timestamp now true))
     go true = record { jitter = h .jitter; last = refl; grace = refl }
     go false = record { jitter = step-tied (s .«last_recv_ms») (s .«last_sender_timestamp») timestamp now (s .jitter) (y .differences) (h .jitter); last = refl; grace = refl }
 
 -- frameOf behind its questions
 frame-tied : (y : Sounds) (s : ReceiverState) (f : Frame) (sampled : Bool) → framing f sampled s .refusal ≡ 0 → Tied y s →
     Tied (after (exact.heard (ReceiverCall.«record_frame» f sampled)) y) (framing f sampled s .state)
-unfolding frameOf taken pushes unmeasured exact.differencesBy exact.lastBy exact.graceBy
+unfolding frameOf withSample pushes echoIfSampled exact.differencesBy exact.lastBy exact.graceBy
 frame-tied y s f true e h =
     rw e (sampled-tied y (counted s (f .counter) (f .bytes) (f .ce)) (f .timestamp) (f .now) (counted-tied y s (f .counter) (f .bytes) (f .ce) h))
 frame-tied y s f false e h = rw e (counted-tied y s (f .counter) (f .bytes) (f .ce) h)

@@ -17,10 +17,11 @@ use Rattle.refusals.specs.Ranges.{maxClock, clockOk, frameSizeOk, delayOk, smoo
 use Rattle.algorithms.specs.Owd as owds
 use Rattle.algorithms.specs.Owd.{windowsOk, samplesOk, pairs, window}
 use Rattle.algorithms.specs.declared.owd.OwdTrendDetector.{OwdTrendDetector}
+use Rattle.pace.specs.Updates as pace
 use Rattle.pace.specs.Updates.{coldStartRefusal, fromSrttRefusal, fromSrtt, withBoundsRefusal, withBounds}
 use Rattle.samples.proofs.SampleKeepsRule.{pushed-keeps-capacity}
 use Rattle.receiver.specs.State.{keepsRule, refusalOf, clockRefusal, updated, startedAt, fresh, newOf, rekeyed, rekeyOf}
-use Rattle.receiver.specs.Frames.{counted, countersOk, measured, unmeasured, pushes, taken, sampleOk, frameRefusal, frameOf}
+use Rattle.receiver.specs.Frames.{counted, countersOk, timingSampled, echoIfSampled, pushes, withSample, sampleOk, frameRefusal, frameOf}
 use Rattle.receiver.specs.Reports.{someBuilt, noneBuilt, built, reportRefusal, builtOf}
 use Rattle.receiver.specs.Pacing.{fromSrttOf, withBoundsOf, shouldSendOf}
 use Rattle.receiver.specs.declared.ReceiverState.{ReceiverState}
@@ -35,11 +36,11 @@ use Rattle.history.proofs.Asked.{yesTo, one, not-one, others, served, c
 abbrev capacityIn : ReceiverState → ℕ
 capacityIn s = s .«owd_trend» .capacity
 
-taken-capacity : (s : ReceiverState) (timestamp now : ℕ) (sampled : Bool) → capacityIn (taken s timestamp now sampled) ≡ capacityIn s
-unfolding taken measured unmeasured
-taken-capacity s timestamp now sampled = go (pushes s now sampled) sampled
+sample-capacity : (s : ReceiverState) (timestamp now : ℕ) (sampled : Bool) → capacityIn (withSample s timestamp now sampled) ≡ capacityIn s
+unfolding withSample timingSampled echoIfSampled
+sample-capacity s timestamp now sampled = go (pushes s now sampled) sampled
   where
-    go : (b c : Bool) → capacityIn (cond b (measured s timestamp now) (unmeasured s timestamp now c)) ≡ capacityIn s
+    go : (b c : Bool) → capacityIn (cond b (timingSampled s timestamp now) (echoIfSampled s timestamp now c)) ≡ capacityIn s
     go true c = pushed-keeps-capacity (s .«owd_trend») (s .«owd_ref») now
     go false true = refl
     go false false = refl
@@ -55,7 +56,7 @@ frame-capacity : (s : ReceiverState) (f : Frame) (sampled : Bool) → capacityIn
 unfolding frameOf counted
 frame-capacity s f sampled =
     updated-capacity (frameRefusal s (f .times) (f .delays) (f .counter) (f .timestamp) (f .bytes) (f .now) sampled) s _
-    (taken-capacity (counted s (f .counter) (f .bytes) (f .ce)) (f .timestamp) (f .now) sampled)
+    (sample-capacity (counted s (f .counter) (f .bytes) (f .ce)) (f .timestamp) (f .now) sampled)
 
 report-capacity : (s : ReceiverState) (times : List ℕ) (ds : List ℤ) (now : ℕ) → capacityIn (builtOf s times ds now .state) ≡ capacityIn s
 unfolding builtOf built
@@ -170,7 +171,7 @@ asks (ReceiverCall.ask q) s = clockOf q
 
 module _ (s : ReceiverState) (rule : keepsRule s ≡ true) where
   refusal : (c : ReceiverCall) → receiverStep c s .refusal ≡ firstNo (asks c s)
-  unfolding receiverStep frameOf frameRefusal reportRefusal rekeyOf clockRefusal fromSrttOf fromSrtt fromSrttRefusal withBoundsOf withBounds withBoundsRefusal
+  unfolding receiverStep frameOf frameRefusal reportRefusal rekeyOf clockRefusal fromSrttOf fromSrtt fromSrttRefusal withBoundsOf withBounds withBoundsRefusal pace.updated
   refusal (ReceiverCall.«record_frame» f sampled) = refl
   refusal (ReceiverCall.«record_recv» f) = refl
   refusal (ReceiverCall.«reset_for_rekey» now) = refl

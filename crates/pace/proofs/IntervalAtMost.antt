@@ -10,7 +10,7 @@ use borrow.Author.Tests.{ltb-false, le-leb, leb-true, eqb-true}
 use Rattle.numbers.specs.Signs.{asUnsigned}
 use Rattle.refusals.specs.Ranges.{maxClock, clockOk}
 use Rattle.pace.specs.Intervals.{clamped, floorAt, top, updateCounted, nextInterval}
-use Rattle.pace.specs.Updates.{paced, fromSrttRefusal, fromSrtt, withBoundsRefusal, withBounds}
+use Rattle.pace.specs.Updates.{updated, fromSrttRefusal, fromSrtt, withBoundsRefusal, withBounds}
 use Rattle.pace.proofs.QuestionsAnswered.{with-bounds-asked}
 
 next-at-most : (interval us lo hi most : ℕ) → interval ≤ most → lo ≤ most → hi ≤ most → nextInterval interval us lo hi ≤ most
@@ -31,24 +31,20 @@ floor-at-most updates = go (leb updates 5)
     go true = omega arith
     go false = omega arith
 
-paced-in-range : (n interval count us lo hi count' : ℕ) → clockOk interval ≡ true → (n ≡ 0 → (lo ≤ maxClock) × (hi ≤ maxClock))
-    → clockOk (paced n interval count (nextInterval interval us lo hi) count' .«report_interval_ms») ≡ true
-paced-in-range n interval count us lo hi count' h bounds = go (eqb n 0) (eqb-true n 0)
-  where
-    go : (b : Bool) → (b ≡ true → n ≡ 0) → clockOk (cond b (nextInterval interval us lo hi) interval) ≡ true
-    go true f = let y = bounds (f refl) in le-leb _ maxClock (next-at-most interval us lo hi maxClock (leb-true interval maxClock h) (y .0) (y .1))
-    go false f = h
-
 -- ---- refused or not
 module _ (ok : Bool) (multiple interval count : ℕ) (srtt : ℤ) (h : clockOk interval ≡ true) where
+  updated-in-range : (n lo hi updates : ℕ) → (n ≡ 0 → (lo ≤ maxClock) × (hi ≤ maxClock)) → clockOk (updated n multiple interval count srtt lo hi updates .«report_interval_ms») ≡ true
+  unfolding updated
+  updated-in-range n lo hi updates bounds = go (eqb n 0) (eqb-true n 0)
+    where
+      go : (b : Bool) → (b ≡ true → n ≡ 0) → clockOk (cond b (nextInterval interval (multiple * asUnsigned srtt) lo hi) interval) ≡ true
+      go true f = let y = bounds (f refl) in le-leb _ maxClock (next-at-most interval (multiple * asUnsigned srtt) lo hi maxClock (leb-true interval maxClock h) (y .0) (y .1))
+      go false f = h
+
   pub from-srtt-in-range : clockOk (fromSrtt ok multiple interval count srtt .«report_interval_ms») ≡ true
   unfolding fromSrtt
-  from-srtt-in-range =
-      paced-in-range (fromSrttRefusal ok srtt) interval count (multiple * asUnsigned srtt) (floorAt (updateCounted count)) top (updateCounted count) h
-      (λ e. (omega (arith, floor-at-most (updateCounted count)), omega arith))
+  from-srtt-in-range = updated-in-range (fromSrttRefusal ok srtt) (floorAt (updateCounted count)) top (updateCounted count) (λ e. (omega (arith, floor-at-most (updateCounted count)), omega arith))
 
   pub with-bounds-in-range : (lo hi : ℕ) → clockOk (withBounds ok multiple interval count srtt lo hi .«report_interval_ms») ≡ true
   unfolding withBounds
-  with-bounds-in-range lo hi =
-      paced-in-range (withBoundsRefusal ok srtt lo hi) interval count (multiple * asUnsigned srtt) lo hi count h
-      (λ e. let y = with-bounds-asked ok srtt lo hi e in (y .lower, y .upper))
+  with-bounds-in-range lo hi = updated-in-range (withBoundsRefusal ok srtt lo hi) lo hi count (λ e. let y = with-bounds-asked ok srtt lo hi e in (y .lower, y .upper))

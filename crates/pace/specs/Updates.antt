@@ -14,20 +14,22 @@ use Rattle.pace.specs.declared.Paced.{Paced}
 unfoldable pub coldStartRefusal : ℕ → ℕ
 coldStartRefusal ms = firstNo (question 2 (clockOk ms) ∷ [])
 
--- an update whose refusal is n and that moves the interval and the count: both as they were on a refusal
-abbrev pub paced : ℕ → ℕ → ℕ → ℕ → ℕ → Paced
-paced n interval count interval' count' = record { refusal = n; «report_interval_ms» = cond (eqb n 0) interval' interval; «srtt_sample_count» = cond (eqb n 0) count' count }
+-- an update whose refusal is n: the interval of so many times SRTT between the bounds, and the updates counted with this one. Both as they were on a refusal
+unfoldable pub updated : ℕ → ℕ → ℕ → ℕ → ℤ → ℕ → ℕ → ℕ → Paced
+updated n multiple interval count srtt lo hi updates =
+    record {
+      refusal = n;
+      «report_interval_ms» = cond (eqb n 0) (nextInterval interval (multiple * asUnsigned srtt) lo hi) interval;
+      «srtt_sample_count» = cond (eqb n 0) updates count;
+    }
 
 -- document 01, the checks: questions 1 and 8. A value of 0 or less passes 8
 unfoldable pub fromSrttRefusal : Bool → ℤ → ℕ
 fromSrttRefusal ok srtt = firstNo (question 1 ok ∷ question 8 (smoothedOk srtt) ∷ [])
 
--- so many times SRTT, between floor and top: the update is counted, and the floor goes by the count
+-- between floor and top: the update is counted, and the floor goes by the count
 unfoldable pub fromSrtt : Bool → ℕ → ℕ → ℕ → ℤ → Paced
-fromSrtt ok multiple interval count srtt =
-    paced (fromSrttRefusal ok srtt) interval count
-    (nextInterval interval (multiple * asUnsigned srtt) (floorAt (updateCounted count)) top)
-    (updateCounted count)
+fromSrtt ok multiple interval count srtt = updated (fromSrttRefusal ok srtt) multiple interval count srtt (floorAt (updateCounted count)) top (updateCounted count)
 
 -- document 01, the checks: questions 1, 2 of both bounds, 8 and 9
 unfoldable pub withBoundsRefusal : Bool → ℤ → ℕ → ℕ → ℕ
@@ -35,5 +37,4 @@ withBoundsRefusal ok srtt lo hi = firstNo (question 1 ok ∷ question 2 (clockOk
 
 -- the caller's bounds, and nothing counted
 unfoldable pub withBounds : Bool → ℕ → ℕ → ℕ → ℤ → ℕ → ℕ → Paced
-withBounds ok multiple interval count srtt lo hi =
-    paced (withBoundsRefusal ok srtt lo hi) interval count (nextInterval interval (multiple * asUnsigned srtt) lo hi) count
+withBounds ok multiple interval count srtt lo hi = updated (withBoundsRefusal ok srtt lo hi) multiple interval count srtt lo hi count

@@ -4,10 +4,8 @@ pub mod intervals; // intervals.rt: an interval between bounds, and the floor at
 
 ghost use mathlib.Core.Path.{_≡_};
 ghost use mathlib.Core.Bool.{true};
-ghost use Prim.Native.Nat.{_*_};
-ghost use Rattle.numbers.specs.Signs.{asUnsigned};
 ghost use Rattle.refusals.specs.Ranges.{smoothedOk};
-ghost use Rattle.pace.specs.Updates.{coldStartRefusal, fromSrtt, withBounds};
+ghost use Rattle.pace.specs.Updates.{coldStartRefusal, updated, fromSrtt, withBounds};
 use crate::intervals::floor_ms;
 use crate::intervals::next_interval_ms;
 use numbers::saturating_add;
@@ -33,12 +31,34 @@ pub fn cold_start_refusal(cold_start_ms: u64) -> u8
     q.first_no()
 }
 
-// So many times SRTT.
-fn interval_us(multiple: u8, srtt_us: i64) -> u64
-    requires { ⌜ smoothedOk «srtt_us» ≡ true ⌝ }
-    ensures { λ r. ⌜ r ≡ multiple * asUnsigned «srtt_us» ⌝ }
+// The interval of so many times SRTT between the bounds, and the updates counted with this one.
+fn update(
+    refusal: u8,
+    multiple: u8,
+    interval_ms: u64,
+    count: u32,
+    srtt_us: i64,
+    min_ms: u64,
+    max_ms: u64,
+    updates: u32,
+) -> Paced
+    requires { ⌜ (refusal ≡ 0 → smoothedOk «srtt_us» ≡ true) ⌝ }
+    ensures { λ r. ⌜ r ≡ updated refusal multiple «interval_ms» count «srtt_us» «min_ms» «max_ms» updates ⌝ }
 {
-    multiple as u64 * unsigned(srtt_us)
+    if refusal == 0 {
+        let interval_us = multiple as u64 * unsigned(srtt_us);
+        Paced {
+            refusal,
+            report_interval_ms: next_interval_ms(interval_ms, interval_us, min_ms, max_ms),
+            srtt_sample_count: updates,
+        }
+    } else {
+        Paced {
+            refusal,
+            report_interval_ms: interval_ms,
+            srtt_sample_count: count,
+        }
+    }
 }
 
 // The interval from SRTT, between the link layer's bounds. The update is counted, and the first few have a lower floor.
@@ -49,28 +69,17 @@ pub fn from_srtt(state_ok: bool, multiple: u8, interval_ms: u64, count: u32, srt
     q.state = state_ok;
     q.round_trip = smoothed_ok(srtt_us);
     let refusal = q.first_no();
-    if refusal == 0 {
-        let updates = saturating_add(count, 1);
-        let wanted_us = interval_us(multiple, srtt_us);
-        let floor = floor_ms(updates);
-        let next = next_interval_ms(
-            interval_ms,
-            wanted_us,
-            floor,
-            limits::MAX_REPORT_INTERVAL_MS,
-        );
-        Paced {
-            refusal,
-            report_interval_ms: next,
-            srtt_sample_count: updates,
-        }
-    } else {
-        Paced {
-            refusal,
-            report_interval_ms: interval_ms,
-            srtt_sample_count: count,
-        }
-    }
+    let updates = saturating_add(count, 1);
+    update(
+        refusal,
+        multiple,
+        interval_ms,
+        count,
+        srtt_us,
+        floor_ms(updates),
+        limits::MAX_REPORT_INTERVAL_MS,
+        updates,
+    )
 }
 
 // The interval from SRTT, between bounds of the caller's. The update is not counted.
@@ -93,19 +102,14 @@ pub fn with_bounds(
     q.round_trip = smoothed_ok(srtt_us);
     q.interval_bounds = bounds_ok(srtt_us, min_ms, max_ms);
     let refusal = q.first_no();
-    if refusal == 0 {
-        let wanted_us = interval_us(multiple, srtt_us);
-        let next = next_interval_ms(interval_ms, wanted_us, min_ms, max_ms);
-        Paced {
-            refusal,
-            report_interval_ms: next,
-            srtt_sample_count: count,
-        }
-    } else {
-        Paced {
-            refusal,
-            report_interval_ms: interval_ms,
-            srtt_sample_count: count,
-        }
-    }
+    update(
+        refusal,
+        multiple,
+        interval_ms,
+        count,
+        srtt_us,
+        min_ms,
+        max_ms,
+        count,
+    )
 }

@@ -11,7 +11,7 @@ use Rattle.algorithms.specs.OwdTrend.{trendOf}
 use Rattle.pace.specs.Updates.{coldStartRefusal}
 use Rattle.gaps.proofs.RuleKept.{observed-fits, stats-fit}
 use Rattle.receiver.specs.State.{Fits, grace, startedAt, fresh, newOf, clockRefusal, updated, rekeyed, rekeyOf}
-use Rattle.receiver.specs.Frames.{counted, measured, unmeasured, pushes, taken, frameRefusal, frameOf}
+use Rattle.receiver.specs.Frames.{counted, timingSampled, echoIfSampled, pushes, withSample, frameRefusal, frameOf}
 use Rattle.receiver.specs.Reports.{someBuilt, noneBuilt, built, reportRefusal, builtOf}
 use Rattle.receiver.specs.Pacing.{fromSrttOf, withBoundsOf}
 use Rattle.receiver.specs.declared.ReceiverState.{ReceiverState}
@@ -37,11 +37,11 @@ unfolding rekeyOf rekeyed
 rekey-fits s now h = updated-fits (clockRefusal s now) s (rekeyed s (now + grace)) h (omega arith)
 
 -- ---- a frame, a report
-taken-fits : (s : ReceiverState) (timestamp now : ℕ) (sampled : Bool) → Fits s → Fits (taken s timestamp now sampled)
-unfolding taken measured unmeasured
-taken-fits s timestamp now sampled h = go (pushes s now sampled) sampled
+sample-fits : (s : ReceiverState) (timestamp now : ℕ) (sampled : Bool) → Fits s → Fits (withSample s timestamp now sampled)
+unfolding withSample timingSampled echoIfSampled
+sample-fits s timestamp now sampled h = go (pushes s now sampled) sampled
   where
-    go : (b c : Bool) → Fits (cond b (measured s timestamp now) (unmeasured s timestamp now c))
+    go : (b c : Bool) → Fits (cond b (timingSampled s timestamp now) (echoIfSampled s timestamp now c))
     go true c = h
     go false true = h
     go false false = h
@@ -50,8 +50,8 @@ pub frame-fits : (s : ReceiverState) (times : List ℕ) (delays : List ℤ) (cou
     → Fits (frameOf s times delays counter timestamp bytes ce now sampled .state)
 unfolding frameOf counted
 frame-fits s times delays counter timestamp bytes ce now sampled h =
-    updated-fits (frameRefusal s times delays counter timestamp bytes now sampled) s (taken (counted s counter bytes ce) timestamp now sampled) h
-    (taken-fits (counted s counter bytes ce) timestamp now sampled (observed-fits (s .«gap_tracker») counter h))
+    updated-fits (frameRefusal s times delays counter timestamp bytes now sampled) s (withSample (counted s counter bytes ce) timestamp now sampled) h
+    (sample-fits (counted s counter bytes ce) timestamp now sampled (observed-fits (s .«gap_tracker») counter h))
 
 pub report-fits : (s : ReceiverState) (times : List ℕ) (delays : List ℤ) (now : ℕ) → Fits s → Fits (builtOf s times delays now .state)
 unfolding builtOf built

@@ -9,7 +9,7 @@ use lib.Dec.{leb, ltb, eqb}
 use lib.IntN.{ℤ}
 use borrow.Author.Tests.{le-leb, eqb-true, leb-true}
 use Rattle.refusals.specs.Ranges.{maxClock, clockOk}
-use Rattle.pace.specs.Updates.{coldStartRefusal, fromSrtt, withBounds}
+use Rattle.pace.specs.Updates.{coldStartRefusal, updated, fromSrtt, withBounds}
 use Rattle.pace.specs.declared.Paced.{Paced}
 use Rattle.pace.proofs.QuestionsAnswered.{cold-start-asked, from-srtt-asked, with-bounds-asked}
 use Rattle.pace.proofs.IntervalAtMost.{from-srtt-in-range, with-bounds-in-range}
@@ -20,7 +20,7 @@ use Rattle.gaps.specs.Gaps.{burstsOk}
 use Rattle.gaps.proofs.RuleKept as trackers
 use Rattle.samples.proofs.SampleKeepsRule as samples
 use Rattle.receiver.specs.State.{grace, keepsRule, Fits, startedAt, fresh, newOf, rekeyed, rekeyOf}
-use Rattle.receiver.specs.Frames.{reordersAfter, counted, measured, unmeasured, pushes, taken, frameOf}
+use Rattle.receiver.specs.Frames.{reordersAfter, counted, timingSampled, echoIfSampled, pushes, withSample, frameOf}
 use Rattle.receiver.specs.Reports.{someBuilt, noneBuilt, built, reportRefusal, builtOf}
 use Rattle.receiver.specs.Pacing.{withPace, fromSrttOf, withBoundsOf}
 use Rattle.receiver.specs.declared.ReceiverState.{ReceiverState}
@@ -80,11 +80,11 @@ module _ (s : ReceiverState) (rule : keepsRule s ≡ true) where
       late true h = le-leb (s .«cumulative_reorder_count» + 1) (s .«cumulative_packets_recv» + 1) (omega arith)
       late false h = le-leb (s .«cumulative_reorder_count») (s .«cumulative_packets_recv» + 1) (omega arith)
 
-  measure-keeps-rule : (timestamp now : ℕ) → clockOk now ≡ true → keepsRule (measured s timestamp now) ≡ true
-  unfolding measured
-  measure-keeps-rule timestamp now h =
+  timing-keeps-rule : (timestamp now : ℕ) → clockOk now ≡ true → keepsRule (timingSampled s timestamp now) ≡ true
+  unfolding timingSampled
+  timing-keeps-rule timestamp now h =
       let k = kept s rule in
-      keeps (measured s timestamp now)
+      keeps (timingSampled s timestamp now)
       (record {
         last-recv = h;
         last-report = k .last-report;
@@ -97,11 +97,11 @@ module _ (s : ReceiverState) (rule : keepsRule s ≡ true) where
         reorders = k .reorders;
       })
 
-  unmeasured-keeps-rule : (timestamp now : ℕ) (sampled : Bool) → clockOk now ≡ true → keepsRule (unmeasured s timestamp now sampled) ≡ true
-  unfolding unmeasured
-  unmeasured-keeps-rule timestamp now true h =
+  echo-keeps-rule : (timestamp now : ℕ) (sampled : Bool) → clockOk now ≡ true → keepsRule (echoIfSampled s timestamp now sampled) ≡ true
+  unfolding echoIfSampled
+  echo-keeps-rule timestamp now true h =
       let k = kept s rule in
-      keeps (unmeasured s timestamp now true)
+      keeps (echoIfSampled s timestamp now true)
       (record {
         last-recv = h;
         last-report = k .last-report;
@@ -113,15 +113,15 @@ module _ (s : ReceiverState) (rule : keepsRule s ≡ true) where
         tracker = k .tracker;
         reorders = k .reorders;
       })
-  unmeasured-keeps-rule timestamp now false h = rule
+  echo-keeps-rule timestamp now false h = rule
 
-  take-keeps-rule : (timestamp now : ℕ) (sampled : Bool) → clockOk now ≡ true → keepsRule (taken s timestamp now sampled) ≡ true
-  unfolding taken
-  take-keeps-rule timestamp now sampled h = go (pushes s now sampled)
+  sample-keeps-rule : (timestamp now : ℕ) (sampled : Bool) → clockOk now ≡ true → keepsRule (withSample s timestamp now sampled) ≡ true
+  unfolding withSample
+  sample-keeps-rule timestamp now sampled h = go (pushes s now sampled)
     where
-      go : (b : Bool) → keepsRule (cond b (measured s timestamp now) (unmeasured s timestamp now sampled)) ≡ true
-      go true = measure-keeps-rule timestamp now h
-      go false = unmeasured-keeps-rule timestamp now sampled h
+      go : (b : Bool) → keepsRule (cond b (timingSampled s timestamp now) (echoIfSampled s timestamp now sampled)) ≡ true
+      go true = timing-keeps-rule timestamp now h
+      go false = echo-keeps-rule timestamp now sampled h
 
 -- `record_recv` is the same with `sampled` true. That a burst's length is 16 bits is its type's
 pub frame-keeps-rule : (s : ReceiverState) (times : List ℕ) (delays : List ℤ) (counter timestamp bytes : ℕ) (ce : Bool) (now : ℕ) (sampled : Bool) → Fits s
@@ -130,7 +130,7 @@ pub frame-keeps-rule : (s : ReceiverState) (times : List ℕ) (delays : List ℤ
 unfolding frameOf
 frame-keeps-rule s times delays counter timestamp bytes ce now sampled f h =
     let y = frame-asked s times delays counter timestamp bytes now sampled h in
-    rw h (take-keeps-rule (counted s counter bytes ce) (count-keeps-rule s (y .rule) counter bytes ce f (y .bursts)) timestamp now sampled (y .clock))
+    rw h (sample-keeps-rule (counted s counter bytes ce) (count-keeps-rule s (y .rule) counter bytes ce f (y .bursts)) timestamp now sampled (y .clock))
 
 -- ---- a report
 module _ (P : ReceiverReportBuilt → Type 0) (s : ReceiverState) (trend : ℤ) (now : ℕ) where
@@ -185,14 +185,14 @@ pace-keeps-rule s p h i =
     (record { last-recv = k .last-recv; last-report = k .last-report; interval = i; deadline = k .deadline; jitter = k .jitter; window = k .window; reference = k .reference; tracker = k .tracker; reorders = k .reorders })
 
 pub from-srtt-keeps-rule : (s : ReceiverState) (srtt : ℤ) → fromSrttOf s srtt .refusal ≡ 0 → keepsRule (fromSrttOf s srtt .state) ≡ true
-unfolding fromSrttOf fromSrtt
+unfolding fromSrttOf fromSrtt updated
 from-srtt-keeps-rule s srtt h =
     let rule = from-srtt-asked (keepsRule s) srtt h .0 in
     pace-keeps-rule s (fromSrtt (keepsRule s) 1 (s .«report_interval_ms») (s .«srtt_sample_count») srtt) rule
     (from-srtt-in-range (keepsRule s) 1 (s .«report_interval_ms») (s .«srtt_sample_count») srtt (kept s rule .interval))
 
 pub with-bounds-keeps-rule : (s : ReceiverState) (srtt : ℤ) (lo hi : ℕ) → withBoundsOf s srtt lo hi .refusal ≡ 0 → keepsRule (withBoundsOf s srtt lo hi .state) ≡ true
-unfolding withBoundsOf withBounds
+unfolding withBoundsOf withBounds updated
 with-bounds-keeps-rule s srtt lo hi h =
     let rule = with-bounds-asked (keepsRule s) srtt lo hi h .rule in
     pace-keeps-rule s (withBounds (keepsRule s) 1 (s .«report_interval_ms») (s .«srtt_sample_count») srtt lo hi) rule

@@ -7,7 +7,7 @@ use lib.Dec.{eqb}
 use lib.IntN.{ℤ}
 use borrow.Author.Tests.{eqb-true}
 use Rattle.refusals.specs.Ranges.{clockOk}
-use Rattle.pace.specs.Updates.{coldStartRefusal, fromSrtt, withBounds}
+use Rattle.pace.specs.Updates.{coldStartRefusal, updated, fromSrtt, withBounds}
 use Rattle.pace.specs.declared.Paced.{Paced}
 use Rattle.pace.proofs.QuestionsAnswered.{cold-start-asked, from-srtt-asked, with-bounds-asked}
 use Rattle.pace.proofs.IntervalAtMost.{from-srtt-in-range, with-bounds-in-range}
@@ -103,14 +103,14 @@ pace-keeps-rule : (s : SenderState) (p : Paced) → keepsRule s ≡ true → clo
 pace-keeps-rule s p h i = keeps (withPace s p .state) (record { last-report = kept s h .last-report; interval = i })
 
 pub from-srtt-keeps-rule : (s : SenderState) (srtt : ℤ) → fromSrttOf s srtt .refusal ≡ 0 → keepsRule (fromSrttOf s srtt .state) ≡ true
-unfolding fromSrttOf fromSrtt
+unfolding fromSrttOf fromSrtt updated
 from-srtt-keeps-rule s srtt h =
     let rule = from-srtt-asked (keepsRule s) srtt h .0 in
     pace-keeps-rule s (fromSrtt (keepsRule s) 2 (s .«report_interval_ms») (s .«srtt_sample_count») srtt) rule
     (from-srtt-in-range (keepsRule s) 2 (s .«report_interval_ms») (s .«srtt_sample_count») srtt (kept s rule .interval))
 
 pub with-bounds-keeps-rule : (s : SenderState) (srtt : ℤ) (lo hi : ℕ) → withBoundsOf s srtt lo hi .refusal ≡ 0 → keepsRule (withBoundsOf s srtt lo hi .state) ≡ true
-unfolding withBoundsOf withBounds
+unfolding withBoundsOf withBounds updated
 with-bounds-keeps-rule s srtt lo hi h =
     let rule = with-bounds-asked (keepsRule s) srtt lo hi h .rule in
     pace-keeps-rule s (withBounds (keepsRule s) 2 (s .«report_interval_ms») (s .«srtt_sample_count») srtt lo hi) rule

@@ -1,7 +1,7 @@
--- `receiver::frames::record::reference_ms` meets its contract. Assumes nothing.
+-- `receiver::frames::joined::reference_ms` meets its contract. Assumes nothing.
 use borrow.Author.Needs.{needs}
-use Rattle.receiver.proofs.frames.record.reference_ms.Statement.{statement}
-use Rattle.receiver.proofs.frames.record.reference_ms.Tie as tie
+use Rattle.receiver.proofs.frames.joined.reference_ms.Statement.{statement}
+use Rattle.receiver.proofs.frames.joined.reference_ms.Tie as tie
 
 some : tie.Need-returns-2
 some c = rw (c .before .owd-ref .given .1)

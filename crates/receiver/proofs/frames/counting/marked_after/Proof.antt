@@ -1,9 +1,9 @@
--- `receiver::frames::marked_after` meets its contract. Assumes nothing.
+-- `receiver::frames::counting::marked_after` meets its contract. Assumes nothing.
 use Rattle.refusals.proofs.PickedByTest.{yes, no}
 use mathlib.Core.Path.{refl}
 use Rattle.receiver.specs.Frames.{markedAfter}
-use Rattle.receiver.proofs.frames.marked_after.Statement.{statement}
-use Rattle.receiver.proofs.frames.marked_after.Tie as tie
+use Rattle.receiver.proofs.frames.counting.marked_after.Statement.{statement}
+use Rattle.receiver.proofs.frames.counting.marked_after.Tie as tie
 
 marked : tie.Need-returns
 unfolding markedAfter

@@ -1,10 +1,10 @@
--- `receiver::frames::reorders_after` meets its contract. Assumes nothing.
+-- `receiver::frames::counting::reorders_after` meets its contract. Assumes nothing.
 use Rattle.refusals.proofs.PickedByTest.{yes, no}
 use mathlib.Core.Path.{refl}
 use borrow.Author.Tests.{lt-ltb, le-ltb}
 use Rattle.receiver.specs.Frames.{reordersAfter}
-use Rattle.receiver.proofs.frames.reorders_after.Statement.{statement}
-use Rattle.receiver.proofs.frames.reorders_after.Tie as tie
+use Rattle.receiver.proofs.frames.counting.reorders_after.Statement.{statement}
+use Rattle.receiver.proofs.frames.counting.reorders_after.Tie as tie
 
 late : tie.Need-returns
 unfolding reordersAfter
