@@ -40,7 +40,7 @@ sender-next (SenderCall.ask q) s e h = h
 -- ---- receiver
 pub record Receiving (s : ReceiverState) : Type 0 where
   pub rule : receivers.keepsRule s ≡ true
-  pub burst : receivers.Fits s
+  pub burst : bursts.Fits s
 
 pub new-receiver : (k : ReceiverNew) → Receiving (newReceiver k)
 unfolding receivers.newOf pace.coldStartRefusal firstNo

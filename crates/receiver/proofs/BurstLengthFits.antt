@@ -9,12 +9,17 @@ use lib.IntN.{ℤ}
 use Rattle.algorithms.specs.Owd.{window}
 use Rattle.algorithms.specs.OwdTrend.{trendOf}
 use Rattle.pace.specs.Updates.{coldStartRefusal}
+use Rattle.gaps.specs.Gaps as gaps
 use Rattle.gaps.proofs.RuleKept.{observed-fits, stats-fit}
-use Rattle.receiver.specs.State.{Fits, grace, startedAt, fresh, newOf, clockRefusal, updated, rekeyed, rekeyOf}
+use Rattle.receiver.specs.State.{grace, startedAt, fresh, newOf, clockRefusal, updated, rekeyed, rekeyOf}
 use Rattle.receiver.specs.Frames.{counted, timingSampled, echoIfSampled, pushes, withSample, frameRefusal, frameOf}
 use Rattle.receiver.specs.Reports.{someBuilt, noneBuilt, built, reportRefusal, builtOf}
 use Rattle.receiver.specs.Pacing.{fromSrttOf, withBoundsOf}
 use Rattle.receiver.specs.declared.ReceiverState.{ReceiverState}
+
+-- what the type of the length of the burst under way keeps
+abbrev pub Fits : ReceiverState → Type 0
+Fits s = gaps.Fits (s .«gap_tracker»)
 
 updated-fits : (n : ℕ) (s t : ReceiverState) → Fits s → Fits t → Fits (updated n s t .state)
 updated-fits n s t hs ht = go (eqb n 0)

@@ -15,54 +15,43 @@ use Rattle.algorithms.specs.Jitter as jitters
 use Rattle.algorithms.specs.Owd as owds
 use Rattle.gaps.specs.Gaps as gaps
 use Rattle.samples.specs.Delay.{referenceOk}
-use Rattle.receiver.specs.State.{graceOk, reordersOk, keepsRule, Kept, clockRefusal}
+use Rattle.receiver.specs.State.{graceOk, reordersOk, keepsRule, clockRefusal}
 use Rattle.receiver.specs.Reports.{reportRefusal}
 use Rattle.receiver.specs.declared.ReceiverState.{ReceiverState}
 
 -- ---- the rule
+-- the rule's clauses by name
+pub record Kept (s : ReceiverState) : Type 0 where
+  pub last-recv : optionalClockOk (s .«last_recv_ms») ≡ true
+  pub last-report : optionalClockOk (s .«last_report_ms») ≡ true
+  pub interval : clockOk (s .«report_interval_ms») ≡ true
+  pub deadline : graceOk (s .«rekey_jitter_grace_until_ms») ≡ true
+  pub jitter : jitters.keepsRule (s .jitter) ≡ true
+  pub window : owds.keepsRule (s .«owd_trend») ≡ true
+  pub reference : referenceOk (s .«owd_ref») ≡ true
+  pub tracker : gaps.keepsRule (s .«gap_tracker») ≡ true
+  pub reorders : reordersOk s ≡ true
+
+each-clause : (a b c d e f g h i : Bool) → (a && b && c && d && e && f && g && h && i) ≡ true
+    → (a ≡ true) × (b ≡ true) × (c ≡ true) × (d ≡ true) × (e ≡ true) × (f ≡ true) × (g ≡ true) × (h ≡ true) × (i ≡ true)
+each-clause a b c d e f g h i all =
+    let s = left (a && b && c && d && e && f && g && h) i all in
+    let t = left (a && b && c && d && e && f && g) h s in
+    let u = left (a && b && c && d && e && f) g t in
+    let v = left (a && b && c && d && e) f u in
+    let w = left (a && b && c && d) e v in
+    let x = left (a && b && c) d w in
+    let y = left (a && b) c x in
+    (left a b y, right a b y, right (a && b) c x, right (a && b && c) d w, right (a && b && c && d) e v, right (a && b && c && d && e) f u, right (a && b && c && d && e && f) g t, right (a && b && c && d && e && f && g) h s, right (a && b && c && d && e && f && g && h) i all)
+
 module _ (s : ReceiverState) where
-  abbrev upto-report : Bool
-  upto-report = optionalClockOk (s .«last_recv_ms») && optionalClockOk (s .«last_report_ms»)
-
-  abbrev upto-interval : Bool
-  upto-interval = upto-report && clockOk (s .«report_interval_ms»)
-
-  abbrev upto-deadline : Bool
-  upto-deadline = upto-interval && graceOk (s .«rekey_jitter_grace_until_ms»)
-
-  abbrev upto-jitter : Bool
-  upto-jitter = upto-deadline && jitters.keepsRule (s .jitter)
-
-  abbrev upto-window : Bool
-  upto-window = upto-jitter && owds.keepsRule (s .«owd_trend»)
-
-  abbrev upto-reference : Bool
-  upto-reference = upto-window && referenceOk (s .«owd_ref»)
-
-  abbrev upto-tracker : Bool
-  upto-tracker = upto-reference && gaps.keepsRule (s .«gap_tracker»)
-
   pub kept : keepsRule s ≡ true → Kept s
   unfolding keepsRule
   kept h =
-      let t = left upto-tracker (reordersOk s) h in
-      let r = left upto-reference (gaps.keepsRule (s .«gap_tracker»)) t in
-      let w = left upto-window (referenceOk (s .«owd_ref»)) r in
-      let j = left upto-jitter (owds.keepsRule (s .«owd_trend»)) w in
-      let d = left upto-deadline (jitters.keepsRule (s .jitter)) j in
-      let i = left upto-interval (graceOk (s .«rekey_jitter_grace_until_ms»)) d in
-      let p = left upto-report (clockOk (s .«report_interval_ms»)) i in
-      record {
-        last-recv = left (optionalClockOk (s .«last_recv_ms»)) (optionalClockOk (s .«last_report_ms»)) p;
-        last-report = right (optionalClockOk (s .«last_recv_ms»)) (optionalClockOk (s .«last_report_ms»)) p;
-        interval = right upto-report (clockOk (s .«report_interval_ms»)) i;
-        deadline = right upto-interval (graceOk (s .«rekey_jitter_grace_until_ms»)) d;
-        jitter = right upto-deadline (jitters.keepsRule (s .jitter)) j;
-        window = right upto-jitter (owds.keepsRule (s .«owd_trend»)) w;
-        reference = right upto-window (referenceOk (s .«owd_ref»)) r;
-        tracker = right upto-reference (gaps.keepsRule (s .«gap_tracker»)) t;
-        reorders = right upto-tracker (reordersOk s) h;
-      }
+      let y =
+      each-clause (optionalClockOk (s .«last_recv_ms»)) (optionalClockOk (s .«last_report_ms»)) (clockOk (s .«report_interval_ms»)) (graceOk (s .«rekey_jitter_grace_until_ms»)) (jitters.keepsRule (s .jitter))
+      (owds.keepsRule (s .«owd_trend»)) (referenceOk (s .«owd_ref»)) (gaps.keepsRule (s .«gap_tracker»)) (reordersOk s) h in
+      record { last-recv = y .0; last-report = y .1; interval = y .2; deadline = y .3; jitter = y .4; window = y .5; reference = y .6; tracker = y .7; reorders = y .8 }
 
   pub keeps : Kept s → keepsRule s ≡ true
   unfolding keepsRule

@@ -9,24 +9,31 @@ use lib.Dec.{leb, ltb, eqb}
 use lib.IntN.{ℤ}
 use borrow.Author.Tests.{le-leb, eqb-true, leb-true}
 use Rattle.refusals.specs.Ranges.{maxClock, clockOk}
+use Rattle.refusals.specs.declared.option.OptionU64.{OptionU64}
 use Rattle.pace.specs.Updates.{coldStartRefusal, updated, fromSrtt, withBounds}
 use Rattle.pace.specs.declared.Paced.{Paced}
 use Rattle.pace.proofs.QuestionsAnswered.{cold-start-asked, from-srtt-asked, with-bounds-asked}
 use Rattle.pace.proofs.IntervalAtMost.{from-srtt-in-range, with-bounds-in-range}
 use Rattle.algorithms.proofs.OwdRuleKept as windows
-use Rattle.algorithms.specs.Owd.{window}
+use Rattle.algorithms.specs.Jitter as jitters
+use Rattle.algorithms.specs.Owd as owds
+use Rattle.algorithms.specs.declared.jitter.JitterEstimator.{JitterEstimator}
+use Rattle.algorithms.specs.declared.owd.OwdTrendDetector.{OwdTrendDetector}
 use Rattle.algorithms.specs.OwdTrend.{trendOf}
 use Rattle.gaps.specs.Gaps.{burstsOk}
 use Rattle.gaps.proofs.RuleKept as trackers
+use Rattle.samples.specs.Delay.{referenceOk}
+use Rattle.samples.specs.declared.OwdReference.{OwdReference}
 use Rattle.samples.proofs.SampleKeepsRule as samples
-use Rattle.receiver.specs.State.{grace, keepsRule, Fits, startedAt, fresh, newOf, rekeyed, rekeyOf}
-use Rattle.receiver.specs.Frames.{reordersAfter, counted, timingSampled, echoIfSampled, pushes, withSample, frameOf}
+use Rattle.receiver.specs.State.{grace, graceOk, keepsRule, startedAt, fresh, newOf, rekeyed, rekeyOf}
+use Rattle.receiver.specs.Frames.{reordersAfter, counted, withTiming, timingSampled, echoIfSampled, pushes, withSample, frameOf}
 use Rattle.receiver.specs.Reports.{someBuilt, noneBuilt, built, reportRefusal, builtOf}
 use Rattle.receiver.specs.Pacing.{withPace, fromSrttOf, withBoundsOf}
 use Rattle.receiver.specs.declared.ReceiverState.{ReceiverState}
 use Rattle.receiver.specs.declared.reports.ReceiverReportBuilt.{ReceiverReportBuilt}
 use Rattle.receiver.proofs.QuestionsAnswered.{kept, keeps, clock-asked, report-asked}
 use Rattle.receiver.proofs.FrameAsked.{frame-asked}
+use Rattle.receiver.proofs.BurstLengthFits.{Fits}
 
 -- ---- a new record
 started-keeps-rule : (window ms : ℕ) → clockOk ms ≡ true → keepsRule (startedAt window ms) ≡ true
@@ -80,39 +87,24 @@ module _ (s : ReceiverState) (rule : keepsRule s ≡ true) where
       late true h = le-leb (s .«cumulative_reorder_count» + 1) (s .«cumulative_packets_recv» + 1) (omega arith)
       late false h = le-leb (s .«cumulative_reorder_count») (s .«cumulative_packets_recv» + 1) (omega arith)
 
+  -- the figures of a sample, moved or not
+  figures-keep-rule : (j : JitterEstimator) (w : OwdTrendDetector) (ref : OwdReference) (deadline : OptionU64) (timestamp now : ℕ) → jitters.keepsRule j ≡ true → owds.keepsRule w ≡ true
+      → referenceOk ref ≡ true → graceOk deadline ≡ true → clockOk now ≡ true → keepsRule (withTiming s j w ref deadline timestamp now) ≡ true
+  figures-keep-rule j w ref deadline timestamp now jitter window reference deadline-ok clock =
+      let k = kept s rule in
+      keeps (withTiming s j w ref deadline timestamp now)
+      (record { last-recv = clock; last-report = k .last-report; interval = k .interval; deadline = deadline-ok; jitter = jitter; window = window; reference = reference; tracker = k .tracker; reorders = k .reorders })
+
   timing-keeps-rule : (timestamp now : ℕ) → clockOk now ≡ true → keepsRule (timingSampled s timestamp now) ≡ true
   unfolding timingSampled
   timing-keeps-rule timestamp now h =
       let k = kept s rule in
-      keeps (timingSampled s timestamp now)
-      (record {
-        last-recv = h;
-        last-report = k .last-report;
-        interval = k .interval;
-        deadline = refl;
-        jitter = samples.jitter-keeps-rule (s .jitter) (s .«last_recv_ms») (s .«last_sender_timestamp») timestamp now (k .jitter);
-        window = samples.pushed-keeps-rule (s .«owd_trend») (s .«owd_ref») now (k .window);
-        reference = samples.base-keeps-rule (s .«owd_ref») now timestamp (k .reference) h;
-        tracker = k .tracker;
-        reorders = k .reorders;
-      })
+      figures-keep-rule _ _ _ _ timestamp now (samples.jitter-keeps-rule (s .jitter) (s .«last_recv_ms») (s .«last_sender_timestamp») timestamp now (k .jitter))
+      (samples.pushed-keeps-rule (s .«owd_trend») (s .«owd_ref») now (k .window)) (samples.base-keeps-rule (s .«owd_ref») now timestamp (k .reference) h) refl h
 
   echo-keeps-rule : (timestamp now : ℕ) (sampled : Bool) → clockOk now ≡ true → keepsRule (echoIfSampled s timestamp now sampled) ≡ true
   unfolding echoIfSampled
-  echo-keeps-rule timestamp now true h =
-      let k = kept s rule in
-      keeps (echoIfSampled s timestamp now true)
-      (record {
-        last-recv = h;
-        last-report = k .last-report;
-        interval = k .interval;
-        deadline = k .deadline;
-        jitter = k .jitter;
-        window = k .window;
-        reference = k .reference;
-        tracker = k .tracker;
-        reorders = k .reorders;
-      })
+  echo-keeps-rule timestamp now true h = let k = kept s rule in figures-keep-rule _ _ _ _ timestamp now (k .jitter) (k .window) (k .reference) (k .deadline) h
   echo-keeps-rule timestamp now false h = rule
 
   sample-keeps-rule : (timestamp now : ℕ) (sampled : Bool) → clockOk now ≡ true → keepsRule (withSample s timestamp now sampled) ≡ true
@@ -165,8 +157,8 @@ pub report-refusal : (s : ReceiverState) (times : List ℕ) (delays : List ℤ) 
 unfolding builtOf
 report-refusal s times delays now = go (reportRefusal s times delays now) (eqb (reportRefusal s times delays now) 0) (eqb-true (reportRefusal s times delays now) 0)
   where
-    go : (n : ℕ) (b : Bool) → (b ≡ true → n ≡ 0) → cond b (built s (trendOf (window (s .«owd_trend») times delays)) now) (noneBuilt n s) .refusal ≡ n
-    go n true f = rw (f refl) (by-data (λ r. r .refusal ≡ 0) s (trendOf (window (s .«owd_trend») times delays)) now refl refl)
+    go : (n : ℕ) (b : Bool) → (b ≡ true → n ≡ 0) → cond b (built s (trendOf (owds.window (s .«owd_trend») times delays)) now) (noneBuilt n s) .refusal ≡ n
+    go n true f = rw (f refl) (by-data (λ r. r .refusal ≡ 0) s (trendOf (owds.window (s .«owd_trend») times delays)) now refl refl)
     go n false f = refl
 
 pub report-keeps-rule : (s : ReceiverState) (times : List ℕ) (delays : List ℤ) (now : ℕ) → Fits s → builtOf s times delays now .refusal ≡ 0
@@ -175,7 +167,7 @@ unfolding builtOf
 report-keeps-rule s times delays now f e =
     let h : reportRefusal s times delays now ≡ 0 = rw (report-refusal s times delays now) at e in
     let y = report-asked s times delays now h in
-    rw h (report-ends-within s (trendOf (window (s .«owd_trend») times delays)) now f (y .0) (y .1))
+    rw h (report-ends-within s (trendOf (owds.window (s .«owd_trend») times delays)) now f (y .0) (y .1))
 
 -- ---- the interval
 pace-keeps-rule : (s : ReceiverState) (p : Paced) → keepsRule s ≡ true → clockOk (p .«report_interval_ms») ≡ true → keepsRule (withPace s p .state) ≡ true

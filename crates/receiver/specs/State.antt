@@ -1,5 +1,4 @@
 -- A receiver's record, its rule and its fields: document 01, the state rule, and receiver.rs. Definitions only.
-use mathlib.Core.Path.{_≡_}
 use mathlib.Core.Bool.{Bool, true, false, cond, _&&_}
 use mathlib.Core.List.{[], _∷_}
 use Prim.Native.Nat.{ℕ, _+_}
@@ -47,22 +46,6 @@ keepsRule s =
     && referenceOk (s .«owd_ref»)
     && gaps.keepsRule (s .«gap_tracker»)
     && reordersOk s
-
--- the rule's clauses by name
-pub record Kept (s : ReceiverState) : Type 0 where
-  pub last-recv : optionalClockOk (s .«last_recv_ms») ≡ true
-  pub last-report : optionalClockOk (s .«last_report_ms») ≡ true
-  pub interval : clockOk (s .«report_interval_ms») ≡ true
-  pub deadline : graceOk (s .«rekey_jitter_grace_until_ms») ≡ true
-  pub jitter : jitters.keepsRule (s .jitter) ≡ true
-  pub window : owds.keepsRule (s .«owd_trend») ≡ true
-  pub reference : referenceOk (s .«owd_ref») ≡ true
-  pub tracker : gaps.keepsRule (s .«gap_tracker») ≡ true
-  pub reorders : reordersOk s ≡ true
-
--- what the type of the length of the burst under way keeps
-abbrev pub Fits : ReceiverState → Type 0
-Fits s = gaps.Fits (s .«gap_tracker»)
 
 -- ---- a new record
 -- nothing received, with a window and a first report interval

@@ -8,13 +8,18 @@ use borrow.Author.Tests.{leb-true, ltb-true}
 use Rattle.refusals.specs.Questions.{question}
 use Rattle.refusals.specs.Ranges.{maxClock, maxFrame, clockOk, frameSizeOk, counterOk}
 use Rattle.refusals.proofs.FirstNoFound.{each-yes}
-use Rattle.sender.specs.State.{lastReportOk, keepsRule, Kept, refusalOf}
+use Rattle.sender.specs.State.{lastReportOk, keepsRule, refusalOf}
 use Rattle.sender.specs.Sent.{countersOk, sentRefusal}
 use Rattle.sender.specs.Backoff.{failureRefusal}
 use Rattle.sender.specs.Reports.{reportRefusal}
 use Rattle.sender.specs.declared.SenderState.{SenderState}
 
 -- ---- the rule
+-- the rule's clauses by name
+pub record Kept (s : SenderState) : Type 0 where
+  pub last-report : lastReportOk s ≡ true
+  pub interval : clockOk (s .«report_interval_ms») ≡ true
+
 pub kept : (s : SenderState) → keepsRule s ≡ true → Kept s
 unfolding keepsRule
 kept s h =

@@ -11,14 +11,14 @@ use Rattle.pace.specs.Updates.{coldStartRefusal, updated, fromSrtt, withBounds}
 use Rattle.pace.specs.declared.Paced.{Paced}
 use Rattle.pace.proofs.QuestionsAnswered.{cold-start-asked, from-srtt-asked, with-bounds-asked}
 use Rattle.pace.proofs.IntervalAtMost.{from-srtt-in-range, with-bounds-in-range}
-use Rattle.sender.specs.State.{lastReportOk, keepsRule, Kept, startedAt, fresh, newOf}
+use Rattle.sender.specs.State.{lastReportOk, keepsRule, startedAt, fresh, newOf}
 use Rattle.sender.specs.Sent.{begun, opened, counted, sent, sentOf}
 use Rattle.sender.specs.Backoff.{withFailures, failureOf, successOf}
 use Rattle.sender.specs.Reports.{reportOf, someBuilt, noneBuilt, built, reportRefusal, builtOf}
 use Rattle.sender.specs.Pacing.{withPace, fromSrttOf, withBoundsOf}
 use Rattle.sender.specs.declared.SenderState.{SenderState}
 use Rattle.sender.specs.declared.reports.SenderReportBuilt.{SenderReportBuilt}
-use Rattle.sender.proofs.QuestionsAnswered.{kept, state-asked, sent-asked, report-asked, failure-asked}
+use Rattle.sender.proofs.QuestionsAnswered.{Kept, kept, state-asked, sent-asked, report-asked, failure-asked}
 
 -- the clauses make the rule
 keeps : (s : SenderState) → Kept s → keepsRule s ≡ true

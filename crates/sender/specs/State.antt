@@ -1,6 +1,5 @@
 -- A sender's record, its rule and its fields: document 01, the state rule and "Reports due". Definitions only.
-use mathlib.Core.Path.{_≡_}
-use mathlib.Core.Bool.{Bool, true, false, cond, not, _&&_, _||_}
+use mathlib.Core.Bool.{Bool, false, cond, not, _&&_, _||_}
 use mathlib.Core.List.{[], _∷_}
 use Prim.Native.Nat.{ℕ}
 use lib.Dec.{eqb}
@@ -21,11 +20,6 @@ lastReportOk s = not (s .«has_last_report») || clockOk (s .«last_report_ms»)
 -- document 01, State rule: the clock field and the report interval obey question 2
 unfoldable pub keepsRule : SenderState → Bool
 keepsRule s = lastReportOk s && clockOk (s .«report_interval_ms»)
-
--- the rule's clauses by name
-pub record Kept (s : SenderState) : Type 0 where
-  pub last-report : lastReportOk s ≡ true
-  pub interval : clockOk (s .«report_interval_ms») ≡ true
 
 -- nothing sent, and a first report interval
 abbrev pub startedAt : ℕ → SenderState

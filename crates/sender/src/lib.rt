@@ -6,6 +6,7 @@ pub mod backoff; // backoff.rt: failures to send a report
 pub mod pacing; // pacing.rt: the report interval, and when a report is due
 
 ghost use mathlib.Core.Path.{_≡_};
+ghost use Rattle.refusals.specs.Answers.{answerU64};
 ghost use Rattle.sender.specs.State.{keepsRule, refusalOf, startedAt, fresh, newOf, packetsOf, bytesOf, intervalOf, failuresOf};
 use pace::cold_start_refusal;
 use refusals::answer::AnswerU32;
@@ -119,22 +120,28 @@ impl SenderState {
 
     // --- Accessors ---
 
+    fn answer_u64(self, value: u64) -> AnswerU64
+        ensures { λ r. ⌜ r ≡ answerU64 (refusalOf self) value ⌝ }
+    {
+        AnswerU64::of(self.refusal(), value)
+    }
+
     pub fn cumulative_packets_sent(self) -> AnswerU64
         ensures { λ r. ⌜ r ≡ packetsOf self ⌝ }
     {
-        AnswerU64::of(self.refusal(), self.cumulative_packets_sent)
+        self.answer_u64(self.cumulative_packets_sent)
     }
 
     pub fn cumulative_bytes_sent(self) -> AnswerU64
         ensures { λ r. ⌜ r ≡ bytesOf self ⌝ }
     {
-        AnswerU64::of(self.refusal(), self.cumulative_bytes_sent)
+        self.answer_u64(self.cumulative_bytes_sent)
     }
 
     pub fn report_interval_ms(self) -> AnswerU64
         ensures { λ r. ⌜ r ≡ intervalOf self ⌝ }
     {
-        AnswerU64::of(self.refusal(), self.report_interval_ms)
+        self.answer_u64(self.report_interval_ms)
     }
 
     pub fn consecutive_send_failures(self) -> AnswerU32
