@@ -16,11 +16,13 @@ use Rattle.refusals.specs.Ranges.{maxClock, clockOk, delayOk}
 use Rattle.algorithms.specs.Owd as owds
 use Rattle.algorithms.specs.Owd.{windowsOk, samplesOk, pairs, window}
 use Rattle.algorithms.specs.declared.owd.OwdTrendDetector.{OwdTrendDetector}
+use Rattle.pace.specs.Updates as pace
+use Rattle.pace.specs.Updates.{coldStartRefusal, fromSrttRefusal, fromSrtt, withBoundsRefusal, withBounds}
 use Rattle.samples.proofs.SampleKeepsRule.{pushed-keeps-capacity}
-use Rattle.receiver.specs.State.{keepsRule, refusalOf, clockRefusal, updated, startedAt, fresh, newRefusal, newOf, rekeyed, rekeyOf}
-use Rattle.receiver.specs.Frames.{counted, measured, unmeasured, pushes, taken, frameRefusal, frameOf}
+use Rattle.receiver.specs.State.{keepsRule, refusalOf, clockRefusal, updated, startedAt, fresh, newOf, rekeyed, rekeyOf}
+use Rattle.receiver.specs.Frames.{counted, timingSampled, echoIfSampled, pushes, withSample, frameRefusal, frameOf}
 use Rattle.receiver.specs.Reports.{someBuilt, noneBuilt, built, reportRefusal, builtOf}
-use Rattle.receiver.specs.Pacing.{paced, countedPace, fromSrttRefusal, fromSrttOf, withBoundsRefusal, withBoundsOf, shouldSendOf}
+use Rattle.receiver.specs.Pacing.{fromSrttOf, withBoundsOf, shouldSendOf}
 use Rattle.receiver.specs.declared.ReceiverState.{ReceiverState}
 use Rattle.receiver.proofs.RuleKept.{report-refusal}
 use Rattle.receiver.proofs.FrameAsked.{sample-in-range}
@@ -32,11 +34,11 @@ use Rattle.history.proofs.Asked.{Lawful, by-questions, never-refused, c
 abbrev capacityIn : ReceiverState → ℕ
 capacityIn s = s .«owd_trend» .capacity
 
-taken-capacity : (s : ReceiverState) (timestamp now : ℕ) (sampled : Bool) → capacityIn (taken s timestamp now sampled) ≡ capacityIn s
-unfolding taken measured unmeasured
-taken-capacity s timestamp now sampled = go (pushes s now sampled) sampled
+sample-capacity : (s : ReceiverState) (timestamp now : ℕ) (sampled : Bool) → capacityIn (withSample s timestamp now sampled) ≡ capacityIn s
+unfolding withSample timingSampled echoIfSampled
+sample-capacity s timestamp now sampled = go (pushes s now sampled) sampled
   where
-    go : (b c : Bool) → capacityIn (cond b (measured s timestamp now) (unmeasured s timestamp now c)) ≡ capacityIn s
+    go : (b c : Bool) → capacityIn (cond b (timingSampled s timestamp now) (echoIfSampled s timestamp now c)) ≡ capacityIn s
     go true c = pushed-keeps-capacity (s .«owd_trend») (s .«owd_ref») now
     go false true = refl
     go false false = refl
@@ -52,7 +54,7 @@ frame-capacity : (s : ReceiverState) (f : Frame) (sampled : Bool) → capacityIn
 unfolding frameOf counted
 frame-capacity s f sampled =
     updated-capacity (frameRefusal s (f .times) (f .delays) (f .counter) (f .timestamp) (f .bytes) (f .now) sampled) s _
-    (taken-capacity (counted s (f .counter) (f .bytes) (f .ce)) (f .timestamp) (f .now) sampled)
+    (sample-capacity (counted s (f .counter) (f .bytes) (f .ce)) (f .timestamp) (f .now) sampled)
 
 report-capacity : (s : ReceiverState) (times : List ℕ) (ds : List ℤ) (now : ℕ) → capacityIn (builtOf s times ds now .state) ≡ capacityIn s
 unfolding builtOf built
@@ -68,17 +70,17 @@ unfolding rekeyed
 rekeyed-capacity s deadline = refl
 
 pub capacity-next : (c : ReceiverCall) (s : ReceiverState) → capacityIn (receiverStep c s .state) ≡ capacityIn s
-unfolding receiverStep rekeyOf fromSrttOf countedPace withBoundsOf paced
+unfolding receiverStep rekeyOf fromSrttOf withBoundsOf
 capacity-next (ReceiverCall.«record_frame» f sampled) s = frame-capacity s f sampled
 capacity-next (ReceiverCall.«record_recv» f) s = frame-capacity s f true
 capacity-next (ReceiverCall.«reset_for_rekey» now) s = updated-capacity (clockRefusal s now) s _ (rekeyed-capacity s _)
 capacity-next (ReceiverCall.«build_report» times ds now) s = report-capacity s times ds now
-capacity-next (ReceiverCall.«update_report_interval_from_srtt» srtt) s = updated-capacity (fromSrttRefusal s srtt) s _ refl
-capacity-next (ReceiverCall.«update_report_interval_with_bounds» srtt lo hi) s = updated-capacity (withBoundsRefusal s srtt lo hi) s _ refl
+capacity-next (ReceiverCall.«update_report_interval_from_srtt» srtt) s = refl
+capacity-next (ReceiverCall.«update_report_interval_with_bounds» srtt lo hi) s = refl
 capacity-next (ReceiverCall.ask q) s = refl
 
 pub new-capacity : (k : ReceiverNew) → capacityIn (newReceiver k) ≡ paper.capacityOf k
-unfolding newOf newRefusal firstNo owds.newOf
+unfolding newOf coldStartRefusal firstNo owds.newOf
 new-capacity (ReceiverNew.new window) = refl
 new-capacity ReceiverNew.default = refl
 new-capacity (ReceiverNew.«new_with_cold_start» window ms) = go (paper.clock ms) refl
@@ -147,7 +149,7 @@ module _ (s : ReceiverState) (rule : keepsRule s ≡ true) (capacity : ℕ) (sam
       rw (rule, clock-yes (f .now) (left c (paper.frameSize (f .bytes)) l), size-yes (f .bytes) (right c (paper.frameSize (f .bytes)) l), windows-yes (f .times) (f .delays) w, sample-in-range s (f .timestamp) (f .now) sampled))
 
   pub receiver-lawful : (c : ReceiverCall) → Lawful (paper.receiverYes capacity c) (receiverStep c s .refusal)
-  unfolding receiverStep frameOf reportRefusal rekeyOf clockRefusal fromSrttOf fromSrttRefusal withBoundsOf withBoundsRefusal
+  unfolding receiverStep frameOf reportRefusal rekeyOf clockRefusal fromSrttOf fromSrtt fromSrttRefusal withBoundsOf withBounds withBoundsRefusal pace.updated
   receiver-lawful (ReceiverCall.«record_frame» f sampled) = frame-lawful f sampled
   receiver-lawful (ReceiverCall.«record_recv» f) = frame-lawful f true
   receiver-lawful (ReceiverCall.«reset_for_rekey» now) = by-questions _ (rw rule) (λ h. rw (rule, clock-yes now h))

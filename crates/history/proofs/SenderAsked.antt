@@ -5,8 +5,10 @@ use Rattle.refusals.specs.Answers.{answerU32, answerU64, answerF64}
 use Rattle.sender.specs.State.{keepsRule, refusalOf}
 use Rattle.sender.specs.Sent.{sentRefusal, sentOf}
 use Rattle.sender.specs.Backoff.{failureRefusal, failureOf, successOf}
-use Rattle.sender.specs.Reports.{reportRefusal, shouldSendOf}
-use Rattle.sender.specs.Pacing.{fromSrttRefusal, fromSrttOf, withBoundsRefusal, withBoundsOf}
+use Rattle.pace.specs.Updates as pace
+use Rattle.pace.specs.Updates.{fromSrttRefusal, fromSrtt, withBoundsRefusal, withBounds}
+use Rattle.sender.specs.Reports.{reportRefusal}
+use Rattle.sender.specs.Pacing.{fromSrttOf, withBoundsOf, shouldSendOf}
 use Rattle.sender.specs.declared.SenderState.{SenderState}
 use Rattle.sender.proofs.RuleKept.{report-refusal}
 use Rattle.history.specs.SenderCalls.{SenderQuestion, senderTold, SenderCall, senderStep}
@@ -29,7 +31,7 @@ module _ (s : SenderState) (rule : keepsRule s ≡ true) where
   told-lawful SenderQuestion.«consecutive_send_failures» = asks-rule
 
   pub sender-lawful : (c : SenderCall) → Lawful (paper.senderYes c) (senderStep c s .refusal)
-  unfolding senderStep sentOf sentRefusal reportRefusal failureOf failureRefusal successOf fromSrttOf fromSrttRefusal withBoundsOf withBoundsRefusal
+  unfolding senderStep sentOf sentRefusal reportRefusal failureOf failureRefusal successOf fromSrttOf fromSrtt fromSrttRefusal withBoundsOf withBounds withBoundsRefusal pace.updated
   sender-lawful (SenderCall.«record_sent» counter timestamp bytes) = by-questions _ (rw rule) (λ h. rw (rule, size-yes bytes h))
   sender-lawful (SenderCall.«build_report» now) = rw (report-refusal s now) (by-questions _ (rw rule) (λ h. rw (rule, clock-yes now h)))
   sender-lawful SenderCall.«record_send_failure» = by-questions _ (rw rule) (λ h. rw rule)
