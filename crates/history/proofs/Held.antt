@@ -24,13 +24,13 @@ pub record SenderHeld (k : SenderNew) (l : List SenderCall) (s : SenderState) : 
 
 pub record ReceiverHeld (k : ReceiverNew) (l : List ReceiverCall) (s : ReceiverState) : Type 0 where
   pub alone : s ≡ runOf receiverStep (newReceiver k) l
-  pub rule : rules.Receiving s
+  pub lawful : rules.Receiving s
   pub jitter : jitters.Tied (jitters.exactOf l) s
   pub capacity : s .«owd_trend» .capacity ≡ capacityOf k
 
 pub record MetricsHeld (k : MetricsNew) (l : List MetricsCall) (m : MmpMetrics) : Type 0 where
   pub alone : m ≡ runOf metricsStep (newMetrics k) l
-  pub rule : rules.Measuring m
+  pub lawful : rules.Measuring m
   pub trips : trips.Tied l m
 
 pub record Held (k : EndNew) (x : Log) (e : End) : Type 0 where
@@ -42,8 +42,8 @@ pub new-held : (k : EndNew) → Held k noCalls (newEnd k)
 unfolding runOf
 new-held k = record {
   sender = record { alone = refl; rule = rules.new-sender (k .sender) };
-  receiver = record { alone = refl; rule = rules.new-receiver (k .receiver); jitter = jitters.new-tied (k .receiver); capacity = new-capacity (k .receiver) };
-  metrics = record { alone = refl; rule = rules.new-metrics (k .metrics); trips = trips.new-tied (k .metrics) };
+  receiver = record { alone = refl; lawful = rules.new-receiver (k .receiver); jitter = jitters.new-tied (k .receiver); capacity = new-capacity (k .receiver) };
+  metrics = record { alone = refl; lawful = rules.new-metrics (k .metrics); trips = trips.new-tied (k .metrics) };
 }
 
 pub held-next : (c : EndCall) (k : EndNew) (x : Log) (e : End) → endFits c → endStep c e .refusal ≡ 0 → Held k x e → Held k (endNote c x) (endStep c e .state)
@@ -58,7 +58,7 @@ held-next (on-receiver c) k x e f z h = record {
   receiver =
       record {
         alone = ap (λ (s : ReceiverState). receiverStep c s .state) (h .receiver .alone);
-        rule = rules.receiver-next c (e .receiver) z (h .receiver .rule);
+        lawful = rules.receiver-next c (e .receiver) z (h .receiver .lawful);
         jitter = jitters.tied-next c (x .receiver) (e .receiver) z (h .receiver .jitter);
         capacity = capacity-next c (e .receiver) ∙ h .receiver .capacity;
       };
@@ -70,7 +70,7 @@ held-next (on-metrics c) k x e f z h = record {
   metrics =
       record {
         alone = ap (λ (m : MmpMetrics). metricsStep c m .state) (h .metrics .alone);
-        rule = rules.metrics-next c (e .metrics) f z (h .metrics .rule);
+        lawful = rules.metrics-next c (e .metrics) f z (h .metrics .lawful);
         trips = trips.tied-next c (x .metrics) (e .metrics) z (h .metrics .trips);
       };
 }

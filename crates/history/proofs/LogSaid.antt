@@ -17,7 +17,7 @@ use Rattle.metrics.proofs.ReportsByCase.{by-case}
 use Rattle.history.specs.Answers.{Answer}
 use Rattle.history.specs.MetricsCalls.{metricsStep}
 use Rattle.history.specs.LogEntry.{Logged, LogHolds}
-use Rattle.history.proofs.RoundTripsAgree.{sample-agrees}
+use Rattle.history.proofs.RoundTripsAgree.{tripIn, trip-agrees}
 
 -- of the entries of a report taken one alone has a round trip
 taken-logged : (m : MmpMetrics) (rr : ReceiverReport) (ours ms : ℕ) (srtt : Float) (t : RoundTrip) → roundTrip rr ours ≡ t → rttLog (counted m) t ≡ log.RttSample ms srtt → Logged m rr ours ms srtt
@@ -26,7 +26,7 @@ taken-logged m rr ours ms srtt NoEcho is e = let z : _≡_ {A = ℕ} 0 1 = cc in
 taken-logged m rr ours ms srtt (Sample n) is e =
     let same : n ≡ ms = cc in
     let before : millisecondsOf (m .srtt .«srtt_us») ≡ srtt = cc in
-    record { whole = sample-agrees rr ours ms (is ∙ ap Sample same); before = sym before }
+    record { whole = trip-agrees rr ours ∙ ap tripIn (is ∙ ap Sample same); before = sym before }
 taken-logged m rr ours ms srtt Zero is e = let z : _≡_ {A = ℕ} 0 1 = cc in absurd (omega arith)
 taken-logged m rr ours ms srtt ArithFail is e = let z : _≡_ {A = ℕ} 0 1 = cc in absurd (omega arith)
 

@@ -48,7 +48,7 @@ etx-between x h = between 1 100 x h
 figures : (k : EndNew) (x : Log) (e : End) → Held k x e → FiguresHold (x .metrics) (e .metrics)
 figures k x e h =
     let t = h .metrics .trips in
-    let rule = kept (e .metrics) (h .metrics .rule .rule) in
+    let rule = kept (e .metrics) (h .metrics .lawful .rule) in
     let same : recorded (e .metrics .srtt) ≡ estimateOf (exact.roundTrips (x .metrics)) = recorded-as (e .metrics .srtt) ∙ t .estimate in
     record {
       smoothed = rw same (smoothed-milliseconds (exact.tripsMs (x .metrics)));
@@ -61,8 +61,8 @@ figures k x e h =
 
 lawful : (c : EndCall) (k : EndNew) (x : Log) (e : End) → Held k x e → Lawful (endYes k c) (endStep c e .refusal)
 lawful (on-sender c) k x e h = sender-lawful (e .sender) (h .sender .rule) c
-lawful (on-receiver c) k x e h = receiver-lawful (e .receiver) (h .receiver .rule .rule) (capacityOf (k .receiver)) (h .receiver .capacity) c
-lawful (on-metrics c) k x e h = metrics-lawful (e .metrics) (h .metrics .rule .rule) c
+lawful (on-receiver c) k x e h = receiver-lawful (e .receiver) (h .receiver .lawful .rule) (capacityOf (k .receiver)) (h .receiver .capacity) c
+lawful (on-metrics c) k x e h = metrics-lawful (e .metrics) (h .metrics .lawful .rule) c
 
 -- ---- both ends
 -- what holds at each side still does when one is set and holds there
@@ -124,7 +124,7 @@ pub no-creep : NoCreepHolds
 no-creep k h fits =
     record {
       alone = λ s. let e = held k h fits s in record { sender = e .sender .alone; receiver = e .receiver .alone; metrics = e .metrics .alone };
-      rules = λ s. let e = held k h fits s in record { sender = e .sender .rule; receiver = e .receiver .rule .rule; metrics = e .metrics .rule .rule };
+      rules = λ s. let e = held k h fits s in record { sender = e .sender .rule; receiver = e .receiver .lawful .rule; metrics = e .metrics .lawful .rule };
       figures = λ s. figures (at s k) (at s (accepted k h)) (at s (reached k h)) (held k h fits s);
       not-by-rule = every k h fits NotByRule (λ c x w e. let s = c .side in lawful (c .call) (at s k) (at s x) (at s w) (e s) .not-by-rule);
       served = every k h fits (ServedIfYes k) (λ c x w e. let s = c .side in lawful (c .call) (at s k) (at s x) (at s w) (e s) .served-if-yes);

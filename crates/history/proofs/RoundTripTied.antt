@@ -20,7 +20,7 @@ use Rattle.metrics.proofs.ReportsByCase.{process-refusal, by-case, by-reverse, 
 use Rattle.metrics.proofs.RoundTripsTaken.{fresh-estimate, fresh-saved, counted-estimator, counted-saved, newer-estimate, newer-saved, rekeyed-estimator, rekeyed-saved, reversed-leaves}
 use Rattle.history.specs.MetricsCalls.{MetricsNew, newMetrics, MetricsCall, metricsStep}
 use Rattle.history.specs.ExactRoundTrip as exact
-use Rattle.history.proofs.RoundTripsAgree.{savedAs, stale-agrees, trip-agrees}
+use Rattle.history.proofs.RoundTripsAgree.{savedAs, stale-agrees, estimate-agrees}
 
 pub record Tied (l : List MetricsCall) (m : MmpMetrics) : Type 0 where
   pub estimate : estimateIn (m .srtt) ≡ estimateOf (exact.roundTrips l)
@@ -67,7 +67,7 @@ process-tied l m rr ours now e h =
       estimate =
           rw (its s)
           (newer-estimate (counted m) rr ours now
-          ∙ trip-agrees (estimateIn (counted m .srtt)) rr ours
+          ∙ estimate-agrees (estimateIn (counted m .srtt)) rr ours
           ∙ ap (λ e. foldl estimateStep e (multiples 1000 (exact.tripMs rr ours))) (ap estimateIn (counted-estimator m) ∙ h .estimate)
           ∙ sym (estimate-of-more (exact.tripsMs l) (exact.tripMs rr ours)));
       kept = rw (its s) (newer-saved (counted m) rr ours now);

@@ -32,7 +32,7 @@ refusal-alike (on-metrics c) d e f h ne = seen.refusal-alike c (e .metrics) (f .
 pub answer-alike : (c : EndCall) (d : ℕ) (k : EndNew) (x : Log) (e f : End) → Held k x e → Like d e f → endStep c f .refusal ≡ endStep c e .refusal → restoreEnd d c (endStep c f .answer) ≡ endStep c e .answer
 answer-alike (on-sender c) d k x e f r h z = ap (λ (s : SenderState). senderStep c s .answer) (h .sender)
 answer-alike (on-receiver c) d k x e f r h z = ap (λ (r : ReceiverState). receiverStep c r .answer) (h .receiver)
-answer-alike (on-metrics c) d k x e f r h z = seen.answer-alike c (e .metrics) (f .metrics) (h .metrics) (r .metrics .rule .rule) z
+answer-alike (on-metrics c) d k x e f r h z = seen.answer-alike c (e .metrics) (f .metrics) (h .metrics) (r .metrics .lawful .rule) z
 
 pub state-alike : (c : EndCall) (d : ℕ) (e f : End) → Like d e f → endStep c e .refusal ≡ 0 → endStep c f .refusal ≡ 0 → Like d (endStep c e .state) (endStep c f .state)
 state-alike (on-sender c) d e f h y z = record { sender = ap (λ (s : SenderState). senderStep c s .state) (h .sender); receiver = h .receiver; metrics = h .metrics }
