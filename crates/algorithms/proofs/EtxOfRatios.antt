@@ -1,4 +1,4 @@
--- The ETX of two ratios, -0.0 included, is from 1 to 100, and does not rise where a ratio rises. Assumes nothing.
+-- The ETX of two ratios, -0.0 included, is from 1 to 100, and does not rise where a ratio rises.
 use mathlib.Core.Path.{_≡_, sym, ap, _∙_, subst}
 use mathlib.Core.Logic.{inl, inr}
 use Prim.Native.Nat.{ℕ, zero, suc, _*_, _<_}

@@ -1,5 +1,4 @@
 -- Trends stay within their rule through rounding.
--- Assumes nothing.
 use mathlib.Core.Path.{_≡_, refl}
 use mathlib.Core.Bool.{Bool, true, false, and-eq-true-iff}
 use mathlib.Core.List.{[], _∷_}
@@ -12,7 +11,7 @@ use Rattle.floats.proofs.Smoothing.{step-fits, ewma-within}
 use Rattle.refusals.specs.Questions.{question}
 use Rattle.refusals.specs.Ranges.{maxTrend, trendOk}
 use Rattle.refusals.proofs.FirstNoFound.{each-yes}
-use Rattle.algorithms.specs.Ewma.{keepsRule, Kept, fresh, moved, stepped, updateRefusal, updateOf}
+use Rattle.algorithms.specs.Ewma.{keepsRule, fresh, moved, stepped, updateRefusal, updateOf}
 use Rattle.algorithms.specs.declared.ewma.DualEwma.{DualEwma}
 
 -- both trends are f64
@@ -26,6 +25,11 @@ pub record Trend (x : Float) : Type 0 where
   pub within : Within zero-float maxTrend x
 
 -- ---- what the rule and the questions tell
+-- the rule's clauses by name
+pub record Kept (s : DualEwma) : Type 0 where
+  pub short : trendOk (s .short) ≡ true
+  pub long : trendOk (s .long) ≡ true
+
 pub kept : (s : DualEwma) → keepsRule s ≡ true → Kept s
 unfolding keepsRule
 kept s h = let p = and-eq-true-iff (trendOk (s .short)) (trendOk (s .long)) .0 h in record { short = p .0; long = p .1 }

@@ -1,5 +1,4 @@
 -- An accepted sample leaves each trend between its old value and the sample, rounding included.
--- Assumes nothing.
 use mathlib.Core.Path.{_≡_, sym}
 use mathlib.Core.Bool.{Bool, true, false, true≢false}
 use Prim.Native.Nat.{ℕ}

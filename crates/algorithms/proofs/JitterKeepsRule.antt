@@ -1,7 +1,6 @@
 -- Scaled jitter stays within its rule: 2^35 is where a step of |D| = 2^31 gives back what it takes.
--- Assumes nothing.
 use mathlib.Core.Path.{_≡_, refl}
-use mathlib.Core.Bool.{true, and-eq-true-iff}
+use mathlib.Core.Bool.{true}
 use mathlib.Core.List.{[], _∷_}
 use Prim.Native.Nat.{ℕ, _≤_, _^_}
 use native.Mathlib.Omega.{arith}
@@ -15,8 +14,9 @@ use Rattle.numbers.specs.Jitter.{jitterStep}
 use Rattle.numbers.specs.Signs.{asUnsigned}
 use Rattle.numbers.proofs.SignTold.{unsigned-at-most, magnitude-at-most}
 use Rattle.refusals.specs.Questions.{question}
+use Rattle.refusals.proofs.Clauses.{right}
 use Rattle.refusals.proofs.FirstNoFound.{each-yes}
-use Rattle.algorithms.specs.Jitter.{keepsRule, Kept, refusalOf, fresh, stepped, updateOf}
+use Rattle.algorithms.specs.Jitter.{keepsRule, refusalOf, fresh, stepped, updateOf}
 use Rattle.algorithms.specs.declared.jitter.JitterEstimator.{JitterEstimator}
 
 -- nothing refused: the rule is kept
@@ -24,11 +24,8 @@ pub rule-asked : (s : JitterEstimator) → refusalOf s ≡ 0 → keepsRule s ≡
 unfolding refusalOf
 rule-asked s h = each-yes (question 1 (keepsRule s) ∷ []) refl h .0
 
-pub kept : (s : JitterEstimator) → keepsRule s ≡ true → Kept s
-kept s h = let p = and-eq-true-iff (leZ (pos 0) (s .«jitter_q4»)) (leZ (s .«jitter_q4») (pos (2 ^ 35))) .0 h in record { low = p .0; high = p .1 }
-
 pub scaled-at-most : (s : JitterEstimator) → keepsRule s ≡ true → asUnsigned (s .«jitter_q4») ≤ 2 ^ 35
-scaled-at-most s h = unsigned-at-most (s .«jitter_q4») (2 ^ 35) (kept s h .high)
+scaled-at-most s h = unsigned-at-most (s .«jitter_q4») (2 ^ 35) (right (leZ (pos 0) (s .«jitter_q4»)) (leZ (s .«jitter_q4») (pos (2 ^ 35))) h)
 
 within : (j d : ℕ) → j ≤ 2 ^ 35 → d ≤ 2 ^ 31 → jitterStep j d ≤ 2 ^ 35
 within j d hj hd = omega arith

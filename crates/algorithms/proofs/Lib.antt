@@ -1,4 +1,4 @@
--- What each estimator keeps, and what its figures come to. Assumes nothing.
+-- What each estimator keeps, and what its figures come to.
 pub mod JitterKeepsRule
 pub mod SrttKeepsRule
 pub mod SrttStepsEstimate

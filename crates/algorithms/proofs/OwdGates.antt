@@ -1,5 +1,4 @@
 -- What the gate of a delay window's call tells: where it gave 0 the state and both buffers are in order, and the answer is that of the call; else all is as given.
--- Assumes nothing.
 use mathlib.Core.Path.{_≡_, refl}
 use Prim.Native.Nat.{ℕ}
 use mathlib.Core.Bool.{true, and-eq-true-iff}
@@ -8,9 +7,9 @@ use lib.Dec.{eqb}
 use lib.IntN.{ℤ}
 use lib.ListN.{length, set}
 use borrow.Author.Tests.{eqb-true, ne-eqb}
-use Rattle.refusals.specs.Questions.{question, EachYes}
+use Rattle.refusals.specs.Questions.{question}
 use Rattle.refusals.specs.Ranges.{delayOk}
-use Rattle.refusals.proofs.FirstNoFound.{each-yes}
+use Rattle.refusals.proofs.FirstNoFound.{EachYes, each-yes}
 use Rattle.algorithms.specs.Owd.{keepsRule, Lent, windowsOk, update, free, stored, pushRefusal}
 use Rattle.algorithms.specs.declared.owd.OwdTrendDetector.{OwdTrendDetector}
 use Rattle.algorithms.specs.declared.owd.OwdUpdate.{OwdUpdate}

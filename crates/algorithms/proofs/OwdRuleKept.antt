@@ -1,13 +1,14 @@
--- The rule of a delay window, clause by clause, and that every call leaves it kept. Assumes nothing.
+-- The rule of a delay window, clause by clause, and that every call leaves it kept.
 use mathlib.Core.Path.{_≡_, refl}
 use Prim.Native.Nat.{ℕ, _+_, _-_, _≤_, _<_, min, max}
 use native.Mathlib.Omega.{arith}
-use mathlib.Core.Bool.{Bool, true, false, cond, _&&_, and-eq-true-iff}
+use mathlib.Core.Bool.{Bool, true, false, _&&_, and-eq-true-iff}
 use mathlib.Core.List.{List, [], _∷_}
 use lib.Dec.{leb, ltb, eqb}
 use lib.IntN.{ℤ}
 use borrow.Author.Tests.{leb-true, ltb-true, le-leb, lt-ltb, ltb-false}
 use Rattle.refusals.specs.Questions.{question, firstNo}
+use Rattle.refusals.proofs.PickedByTest.{picked}
 use Rattle.algorithms.specs.Owd.{capacityOk, countOk, firstOk, keepsRule, Rule, empty, newOf, chosen, clearAnswer, onward, free, grown, pushRefusal, pushAnswer}
 use Rattle.algorithms.specs.declared.owd.OwdTrendDetector.{OwdTrendDetector}
 
@@ -33,11 +34,9 @@ empty-rule : (n : ℕ) → 2 ≤ n → n ≤ 4096 → Rule (empty n)
 empty-rule n l m = record { least = l; most = m; count = omega arith; first = omega arith }
 
 onward-below : (capacity slot n : ℕ) → slot < capacity → n ≤ capacity → onward capacity slot n < capacity
-onward-below capacity slot n s h = go (ltb n (capacity - slot)) (ltb-true n (capacity - slot)) (ltb-false n (capacity - slot))
-  where
-    go : (b : Bool) → (b ≡ true → n < capacity - slot) → (b ≡ false → capacity - slot ≤ n) → cond b (slot + n) (n - (capacity - slot)) < capacity
-    go true p q = let l = p refl in omega arith
-    go false p q = let l = q refl in omega arith
+onward-below capacity slot n s h =
+    picked (λ (k : ℕ). k < capacity) (ltb n (capacity - slot)) (λ e. let l = ltb-true n (capacity - slot) e in omega arith)
+    (λ e. let l = ltb-false n (capacity - slot) e in omega arith)
 
 pub free-below : (s : OwdTrendDetector) → Rule s → free s < s .capacity
 unfolding free

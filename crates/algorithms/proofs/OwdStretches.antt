@@ -1,5 +1,5 @@
 -- The live pairs of a ring stand in two straight stretches of its slots, and a stretch is its first pair and the stretch after it. Sums and tests over pairs
--- go from one stretch to the next. Assumes nothing.
+-- go from one stretch to the next.
 use mathlib.Core.Path.{_≡_, refl, sym, ap, _∙_}
 use Prim.Native.Nat.{ℕ, suc, _+_, _-_, _≤_, _<_, min}
 use native.Mathlib.Numerals.{add-one}

@@ -1,4 +1,4 @@
--- The trend's answer where the gate of questions 1 and 4 let it through, and where it refused. Assumes nothing.
+-- The trend's answer where the gate of questions 1 and 4 let it through, and where it refused.
 use mathlib.Core.Path.{_≡_, refl}
 use Prim.Native.Nat.{ℕ}
 use mathlib.Core.Bool.{Bool, true, false, cond}
@@ -6,9 +6,9 @@ use mathlib.Core.List.{List, [], _∷_}
 use lib.Dec.{eqb}
 use lib.IntN.{ℤ, pos}
 use lib.ListN.{length}
-use Rattle.refusals.specs.Questions.{question, firstNo, EachYes}
+use Rattle.refusals.specs.Questions.{question, firstNo}
 use Rattle.refusals.specs.declared.answer.AnswerI32.{AnswerI32}
-use Rattle.refusals.proofs.FirstNoFound.{each-yes}
+use Rattle.refusals.proofs.FirstNoFound.{EachYes, each-yes}
 use Rattle.algorithms.specs.Owd.{keepsRule, Lent, windowsOk, window, samplesOk}
 use Rattle.algorithms.specs.OwdTrend.{trendOf, liveTrend, trendAnswer}
 use Rattle.algorithms.specs.declared.owd.OwdTrendDetector.{OwdTrendDetector}

@@ -1,5 +1,4 @@
 -- The last edge's time stays within its rule.
--- Assumes nothing.
 use mathlib.Core.Path.{_≡_, refl, sym, _∙_}
 use mathlib.Core.Bool.{Bool, true, false, cond, Bool·beq}
 use mathlib.Core.List.{[], _∷_}

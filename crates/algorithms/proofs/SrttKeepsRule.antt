@@ -1,7 +1,6 @@
 -- The smoothed round trip and its variation stay within their rule.
--- Assumes nothing.
 use mathlib.Core.Path.{_≡_, refl}
-use mathlib.Core.Bool.{Bool, true, false, cond, _&&_, and-eq-true-iff}
+use mathlib.Core.Bool.{Bool, true, false, cond}
 use mathlib.Core.List.{[], _∷_}
 use Prim.Native.Nat.{ℕ, _/_, _≤_, _^_}
 use native.Mathlib.Omega.{arith}
@@ -14,23 +13,26 @@ use Rattle.numbers.specs.Signs.{asUnsigned}
 use Rattle.numbers.proofs.SignTold.{unsigned-at-most}
 use Rattle.refusals.specs.Questions.{question}
 use Rattle.refusals.specs.Ranges.{maxDelay, roundTripOk}
+use Rattle.refusals.proofs.Clauses.{both, right, joined}
 use Rattle.refusals.proofs.FirstNoFound.{each-yes}
-use Rattle.algorithms.specs.Srtt.{keepsRule, Kept, estimateIn, holding, fresh, stepped, updateRefusal, updateOf}
+use Rattle.algorithms.specs.Srtt.{keepsRule, estimateIn, holding, fresh, stepped, updateRefusal, updateOf}
 use Rattle.algorithms.specs.declared.srtt.SrttEstimator.{SrttEstimator}
 
 -- ---- what the rule and the questions tell
-both : {a b : Bool} → a ≡ true → b ≡ true → (a && b) ≡ true
-both {a} {b} ha hb = and-eq-true-iff a b .1 (ha, hb)
-
 trip-at-most : (z : ℤ) → roundTripOk z ≡ true → asUnsigned z ≤ 2 ^ 42
-trip-at-most z h = unsigned-at-most z (2 ^ 42) (and-eq-true-iff (leZ (pos 0) z) (leZ z maxDelay) .0 h .1)
+trip-at-most z h = unsigned-at-most z (2 ^ 42) (right (leZ (pos 0) z) (leZ z maxDelay) h)
 
 trip-ok : (n : ℕ) → n ≤ 2 ^ 42 → roundTripOk (pos n) ≡ true
 trip-ok n h = rw leb·zero (le-leb n (2 ^ 42) h)
 
+-- the rule's clauses by name
+pub record Kept (s : SrttEstimator) : Type 0 where
+  pub smoothed : roundTripOk (s .«srtt_us») ≡ true
+  pub variation : roundTripOk (s .«rttvar_us») ≡ true
+
 pub kept : (s : SrttEstimator) → keepsRule s ≡ true → Kept s
 unfolding keepsRule
-kept s h = let p = and-eq-true-iff (roundTripOk (s .«srtt_us»)) (roundTripOk (s .«rttvar_us»)) .0 h in record { smoothed = p .0; variation = p .1 }
+kept s h = let p = both (roundTripOk (s .«srtt_us»)) (roundTripOk (s .«rttvar_us»)) h in record { smoothed = p .0; variation = p .1 }
 
 -- nothing refused: the rule is kept, and the round trip is in range
 pub update-asked : (s : SrttEstimator) (r : ℤ) → updateRefusal s r ≡ 0 → (keepsRule s ≡ true) × (roundTripOk r ≡ true)
@@ -46,8 +48,8 @@ rttvar-within v s r hv hs hr = omega arith
 
 holding-keeps-rule : (begun : Bool) (s v r : ℕ) → s ≤ 2 ^ 42 → v ≤ 2 ^ 42 → r ≤ 2 ^ 42 → keepsRule (holding (estimateStep (cond begun (estimate s v) no-estimate) r)) ≡ true
 unfolding keepsRule estimateStep
-holding-keeps-rule true s v r hs hv hr = both (trip-ok _ (srtt-within s r hs hr)) (trip-ok _ (rttvar-within v s r hv hs hr))
-holding-keeps-rule false s v r hs hv hr = both (trip-ok r hr) (trip-ok (r / 2) (omega arith))
+holding-keeps-rule true s v r hs hv hr = joined (trip-ok _ (srtt-within s r hs hr)) (trip-ok _ (rttvar-within v s r hv hs hr))
+holding-keeps-rule false s v r hs hv hr = joined (trip-ok r hr) (trip-ok (r / 2) (omega arith))
 
 pub fresh-keeps-rule : keepsRule fresh ≡ true
 unfolding keepsRule

@@ -1,5 +1,4 @@
 -- An estimator's step is numbers' step of the estimate that it holds.
--- Assumes nothing.
 use mathlib.Core.Path.{_≡_, refl}
 use Prim.Native.Nat.{ℕ}
 use lib.IntN.{ℤ}

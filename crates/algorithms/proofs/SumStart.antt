@@ -1,4 +1,4 @@
--- A sum of integers cast to floats is the same from -0.0, where the Rust's `sum` starts, as from 0.0: no such cast is -0.0. Assumes nothing.
+-- A sum of integers cast to floats is the same from -0.0, where the Rust's `sum` starts, as from 0.0: no such cast is -0.0.
 use mathlib.Core.Path.{_≡_, refl, ap, subst}
 use Prim.Native.Nat.{ℕ, zero, suc, _*_, _≤_, _<_}
 use native.Mathlib.Nat.{zero-add, zero-mul, zero-lt-suc, sub-zero}

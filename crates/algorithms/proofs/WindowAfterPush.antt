@@ -1,10 +1,10 @@
 -- What the calls do to the window as a list of pairs: a push appends its pair and drops the oldest of a full window, and writes one slot of each buffer;
--- a cleared window is empty. Assumes nothing.
+-- a cleared window is empty.
 use mathlib.Core.Path.{_≡_, refl, sym, ap, _∙_}
 use mathlib.Core.Logic.{_≢_, _⊎_, inl, inr}
 use Prim.Native.Nat.{ℕ, zero, suc, _+_, _-_, _≤_, _<_}
 use native.Mathlib.Omega.{arith}
-use mathlib.Core.Bool.{Bool, true, false, cond}
+use mathlib.Core.Bool.{Bool, true, false}
 use mathlib.Core.List.{List, [], _∷_, _++_}
 use lib.Dec.{ltb, eqb}
 use lib.IntN.{ℤ}
@@ -12,6 +12,7 @@ use lib.ListN.{length, drop, getD, set, length-append, length-drop, length-set, 
 use lib.Seq.{getD-take, getD-drop, getD-append-add, getD-append-seam, getD-set-same, getD-set-other, ext-getD}
 use borrow.Author.Tests.{ltb-true, ltb-false}
 use Rattle.refusals.specs.Questions.{firstNo}
+use Rattle.refusals.proofs.PickedByTest.{picked}
 use Rattle.algorithms.specs.Owd.{keepsRule, Rule, Lent, pairs, live, window, clearAnswer, onward, free, grown, pushRefusal, pushAnswer, stored}
 use Rattle.algorithms.specs.declared.owd.OwdTrendDetector.{OwdTrendDetector}
 use Rattle.algorithms.proofs.OwdRuleKept.{free-below, grown-rule}
@@ -144,11 +145,7 @@ clear-window s ts ds h = rw h refl
 module _ {A : Type 0} (refusal : ℕ) (s : OwdTrendDetector) (x : A) (xs : List A) where
   pub stored-elsewhere : (i : ℕ) (d : A) → i ≢ free s → getD (stored refusal s x xs) i d ≡ getD xs i d
   unfolding stored
-  stored-elsewhere i d n = go (eqb refusal 0)
-    where
-      go : (b : Bool) → getD (cond b (set xs (free s) x) xs) i d ≡ getD xs i d
-      go true = getD-set-other xs (free s) i x d n
-      go false = refl
+  stored-elsewhere i d n = picked (λ ys. getD ys i d ≡ getD xs i d) (eqb refusal 0) (λ e. getD-set-other xs (free s) i x d n) (λ e. refl)
 
   pub stored-there : (d : A) → refusal ≡ 0 → Rule s → length xs ≡ s .capacity → getD (stored refusal s x xs) (free s) d ≡ x
   unfolding stored

@@ -1,5 +1,4 @@
 -- A short and a long trend of one figure: document 01, "Round trip, ratios and trends". Definitions only.
-use mathlib.Core.Path.{_≡_}
 use mathlib.Core.Bool.{Bool, true, false, cond, _&&_}
 use mathlib.Core.List.{[], _∷_}
 use Prim.Native.Nat.{ℕ}
@@ -17,11 +16,6 @@ use Rattle.algorithms.specs.declared.ewma.EwmaUpdate.{EwmaUpdate}
 -- document 01, State rule: trends are 0 to 2^64, none NaN
 unfoldable pub keepsRule : DualEwma → Bool
 keepsRule s = trendOk (s .short) && trendOk (s .long)
-
--- the rule's clauses by name
-pub record Kept (s : DualEwma) : Type 0 where
-  pub short : trendOk (s .short) ≡ true
-  pub long : trendOk (s .long) ≡ true
 
 -- no sample yet
 abbrev pub fresh : DualEwma

@@ -1,6 +1,5 @@
 -- Interarrival jitter as an estimator keeps it: document 01, "Jitter, delay trend and bursts". Definitions only.
-use mathlib.Core.Path.{_≡_}
-use mathlib.Core.Bool.{Bool, true, cond, _&&_}
+use mathlib.Core.Bool.{Bool, cond, _&&_}
 use mathlib.Core.List.{[], _∷_}
 use Prim.Native.Nat.{ℕ, _^_}
 use lib.Dec.{eqb}
@@ -16,11 +15,6 @@ use Rattle.algorithms.specs.declared.jitter.JitterUpdate.{JitterUpdate}
 -- document 01, State rule: scaled jitter is 0 to 2^35
 abbrev pub keepsRule : JitterEstimator → Bool
 keepsRule s = leZ (pos 0) (s .«jitter_q4») && leZ (s .«jitter_q4») (pos (2 ^ 35))
-
--- the rule's clauses by name
-pub record Kept (s : JitterEstimator) : Type 0 where
-  pub low : leZ (pos 0) (s .«jitter_q4») ≡ true
-  pub high : leZ (s .«jitter_q4») (pos (2 ^ 35)) ≡ true
 
 -- document 01, the checks: question 1 alone
 unfoldable pub refusalOf : JitterEstimator → ℕ

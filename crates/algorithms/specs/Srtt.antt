@@ -1,5 +1,4 @@
 -- Smoothed round trip as an estimator keeps it: document 01, "Round trip, ratios and trends". Definitions only.
-use mathlib.Core.Path.{_≡_}
 use mathlib.Core.Bool.{Bool, true, false, cond, _&&_}
 use mathlib.Core.List.{[], _∷_}
 use Prim.Native.Nat.{ℕ}
@@ -18,11 +17,6 @@ use Rattle.algorithms.specs.declared.srtt.SrttUpdate.{SrttUpdate}
 -- document 01, State rule: SRTT and RTTVAR are 0 to 2^42, as a round trip is
 unfoldable pub keepsRule : SrttEstimator → Bool
 keepsRule s = roundTripOk (s .«srtt_us») && roundTripOk (s .«rttvar_us»)
-
--- the rule's clauses by name
-pub record Kept (s : SrttEstimator) : Type 0 where
-  pub smoothed : roundTripOk (s .«srtt_us») ≡ true
-  pub variation : roundTripOk (s .«rttvar_us») ≡ true
 
 -- the estimate that a record holds: none before the first round trip, whatever its fields hold
 unfoldable pub estimateIn : SrttEstimator → Estimate

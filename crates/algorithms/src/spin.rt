@@ -2,7 +2,7 @@
 
 ghost use mathlib.Core.Path.{_≡_};
 ghost use Rattle.algorithms.specs.Spin.{keepsRule, refusalOf, fresh, restartOf, isInitiatorOf, txBitOf, sinceEdge, reflected, copied, observed, rxObserveOf};
-use numbers::saturating_sub;
+use numbers::methods::saturating_sub_u64;
 use refusals::answer::AnswerBool;
 use refusals::option::OptionU64;
 use refusals::questions::Questions;
@@ -36,7 +36,7 @@ fn since_edge(last_edge_ms: OptionU64, now_ms: u64) -> OptionU64
 {
     match last_edge_ms {
         OptionU64::None => OptionU64::None,
-        OptionU64::Some(edge_ms) => OptionU64::Some(saturating_sub(now_ms, edge_ms)),
+        OptionU64::Some(edge_ms) => OptionU64::Some(saturating_sub_u64(now_ms, edge_ms)),
     }
 }
 

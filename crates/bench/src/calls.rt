@@ -1,10 +1,13 @@
 // One turn of the loop. Each turn draws a random number, stores a byte of it in the payload, makes the call, and adds a byte of the output at a place
 // that the number picks: so no call can be left out or moved out of the loop.
-use codec::fields::bits32;
-use codec::fields::signed32;
+use numbers::signs::bits32;
+use numbers::signs::signed32;
 use wire::path_mtu::PathMtuNotification;
 use wire::receiver_report::ReceiverReport;
 use wire::sender_report::SenderReport;
+
+// The first random number.
+pub const START: u64 = 88172645463325252;
 
 // The last random number, and the checksum so far.
 pub struct Progress {

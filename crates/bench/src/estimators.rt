@@ -12,9 +12,9 @@ use algorithms::owd::OwdTrendDetector;
 use algorithms::spin::SpinBitState;
 use algorithms::spin::SpinObserved;
 use algorithms::srtt::SrttEstimator;
-use codec::fields::bits32;
-use codec::fields::signed32;
+use numbers::signs::bits32;
 use numbers::signs::signed;
+use numbers::signs::signed32;
 use numbers::signs::unsigned;
 use refusals::option::OptionU64;
 

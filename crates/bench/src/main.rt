@@ -10,6 +10,7 @@ mod sent;
 mod table;
 
 use calls::Progress;
+use calls::START;
 use libc::STDOUT_FILENO;
 
 // The number that the digits write, as far as it fits; every other byte is passed over.
@@ -44,7 +45,7 @@ fn argument(i: usize) -> u64 {
 
 fn run(call: u64, count: u64, payload: &mut [u8], out: &mut [u8]) -> u64 {
     let mut turn = Progress {
-        random: 88172645463325252,
+        random: START,
         sum: 0,
     };
     let mut left = count;
@@ -63,7 +64,7 @@ fn run_figures(
     delays: &mut [i64],
 ) -> u64 {
     let mut turn = Progress {
-        random: 88172645463325252,
+        random: START,
         sum: 0,
     };
     let mut left = count;
@@ -82,7 +83,7 @@ fn run_received(
     delays: &mut [i64],
 ) -> u64 {
     let mut turn = Progress {
-        random: 88172645463325252,
+        random: START,
         sum: 0,
     };
     let mut left = count;
@@ -95,7 +96,7 @@ fn run_received(
 
 fn run_processed(call: u64, count: u64, numbers: &mut [u64], floats: &mut [f64]) -> u64 {
     let mut turn = Progress {
-        random: 88172645463325252,
+        random: START,
         sum: 0,
     };
     let mut left = count;

@@ -22,11 +22,11 @@ use crate::table::store_number;
 use crate::table::word_at;
 use algorithms::ewma::DualEwma;
 use algorithms::srtt::SrttEstimator;
-use codec::fields::signed32;
 use metrics::MmpMetrics;
 use metrics::Outcome;
 use metrics::RrLog;
 use numbers::signs::signed;
+use numbers::signs::signed32;
 use wire::receiver_report::ReceiverReport;
 
 fn ewma_of(f: &[f64], from: usize, k: usize, initialized: bool) -> DualEwma {
@@ -143,7 +143,7 @@ fn log_sum(log: RrLog) -> u64 {
             prev_packets,
             prev_bytes,
         } => { prev_highest ^ prev_packets ^ prev_bytes }
-        RrLog::RttSample(ms, srtt_ms) => wide(ms) ^ flag(srtt_ms < 8.0),
+        RrLog::RttSample { rtt_ms, srtt_ms } => wide(rtt_ms) ^ flag(srtt_ms < 8.0),
         RrLog::InvalidRtt => 3,
     }
 }

@@ -24,7 +24,7 @@ use algorithms::owd::OwdTrendDetector;
 use gaps::GapTracker;
 use numbers::signs::signed;
 use receiver::ReceiverState;
-use samples::OwdReference;
+use samples::delay::OwdReference;
 
 // A full window whose oldest pair stands a third from its start.
 fn window_of(s: &[u64], from: usize) -> OwdTrendDetector {

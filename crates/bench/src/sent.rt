@@ -1,5 +1,6 @@
 // The loop over a sender's record: eight peers' records in memory, of which the random number picks one, and the call on it.
 ghost use Prim.Native.Nat.{_<_};
+use crate::calls::START;
 use crate::calls::next;
 use crate::calls::sender_sum;
 use crate::calls::u32_of;
@@ -41,7 +42,7 @@ fn sent_and_built(state: SenderState, x: u64, bytes: usize) -> SenderReportBuilt
 pub fn sum(call: u64, count: u64) -> u64 {
     let new = SenderState::new();
     let mut states = [new; 8];
-    let mut x = 88172645463325252;
+    let mut x = START;
     let mut sum = 0;
     let mut left = count;
     while left > 0 {

@@ -1,4 +1,4 @@
--- The length answer by the test that decides it, and what it says of the test. Assumes nothing.
+-- The length answer by the test that decides it, and what it says of the test.
 use Prim.Native.Nat.{ℕ, _+_, _≤_, _<_}
 use mathlib.Core.Path.{_≡_, refl}
 use mathlib.Core.Bool.{Bool, true, false, cond}

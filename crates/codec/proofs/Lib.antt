@@ -1,5 +1,4 @@
--- The laws of fields that other crates cite. Assumes nothing.
+-- The laws of fields that other crates cite.
 pub mod Widths
 pub mod Stores
 pub mod Lengths
-mod Signed

@@ -1,4 +1,4 @@
--- What a loop that stores the bytes of a number leaves. Assumes nothing.
+-- What a loop that stores the bytes of a number leaves.
 use Prim.Native.Nat.{ℕ, zero, suc, _+_, _-_, _/_, _%_, _≤_, _<_}
 use mathlib.Core.Path.{_≡_, ap, sym, _∙_}
 use mathlib.Core.List.{List, _++_, append-nil}

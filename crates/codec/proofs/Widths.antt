@@ -1,5 +1,4 @@
 -- Little-endian fields of any width: m bytes and then n more; reading undoes writing, writing undoes reading; equal bytes read alike.
--- Assumes nothing.
 use Prim.Native.Nat.{ℕ, zero, suc, _+_, _-_, _*_, _/_, _%_, _^_, _≤_, _<_}
 use mathlib.Core.Path.{_≡_, refl, ap}
 use mathlib.Core.List.{List, [], _∷_, _++_}

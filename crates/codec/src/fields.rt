@@ -6,6 +6,8 @@ ghost use lib.ListN.{length};
 ghost use mir.Syntax.{w32};
 ghost use mir.Val.{toZ, ofZ};
 ghost use Rattle.codec.specs.LittleEndian.{leAt, fieldAt, withField};
+use numbers::signs::bits32;
+use numbers::signs::signed32;
 
 // How many bytes lie from a position on.
 pub fn left_at(s: &[u8], at: usize) -> usize
@@ -84,28 +86,6 @@ pub fn u64_at(s: &[u8], at: usize) -> u64
         return 0;
     }
     u64_in(s, at)
-}
-
-// The bits of a u32 read as signed.
-pub fn signed32(x: u32) -> i32
-    ensures { λ r. ⌜ r ≡ toZ w32 x ⌝ }
-{
-    if x < 2147483648 {
-        return x as i32;
-    }
-    let back = (4294967295 - x) as i32;
-    !back
-}
-
-// A signed number's bits.
-pub fn bits32(z: i32) -> u32
-    ensures { λ r. ⌜ r ≡ ofZ w32 z ⌝ }
-{
-    if 0 <= z {
-        return z as u32;
-    }
-    let back = (!z) as u32;
-    4294967295 - back
 }
 
 pub fn i32_at(s: &[u8], at: usize) -> i32

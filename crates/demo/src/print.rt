@@ -1,7 +1,7 @@
 // The table: a heading, and a line for a minute.
 use crate::life::Life;
-use codec::fields::bits32;
 use libc::STDOUT_FILENO;
+use numbers::signs::bits32;
 use numbers::signs::unsigned;
 
 pub fn heading() {

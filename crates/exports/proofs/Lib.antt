@@ -1,3 +1,3 @@
--- The payload checks answer as the decoders do, and a lent record stays as it was on a refusal. Assumes nothing.
+-- The payload checks answer as the decoders do, and a lent record stays as it was on a refusal.
 pub mod PayloadChecks
 pub mod RefusedStays

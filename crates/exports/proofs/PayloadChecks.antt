@@ -1,4 +1,4 @@
--- A payload check answers as the decoder of its report does: the same status, and beside a 7 the same two lengths. Assumes nothing.
+-- A payload check answers as the decoder of its report does: the same status, and beside a 7 the same two lengths.
 use Prim.Native.Nat.{ℕ}
 use mathlib.Core.Path.{_≡_, refl}
 use mathlib.Core.List.{List}

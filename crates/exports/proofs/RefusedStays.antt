@@ -1,5 +1,4 @@
 -- A call on a lent record: on a refusal the record is the one that was lent, and an out-parameter what the caller had there; else it is the result.
--- Assumes nothing.
 use mathlib.Core.Path.{_≡_, refl, sym, ap, _∙_}
 use mathlib.Core.Bool.{Bool, true, false}
 use Prim.Native.Nat.{ℕ}

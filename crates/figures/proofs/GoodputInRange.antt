@@ -1,4 +1,4 @@
--- Bytes over milliseconds as bytes a second, and the goodput smoothed by them, are from 0 to 2^74. Assumes nothing.
+-- Bytes over milliseconds as bytes a second, and the goodput smoothed by them, are from 0 to 2^74.
 use mathlib.Core.Path.{_≡_, refl, sym, ap, _∙_, subst}
 use mathlib.Core.Logic.{inl, inr}
 use Prim.Native.Nat.{ℕ, suc, _+_, _-_, _*_, _^_, _≤_, _<_}

@@ -1,4 +1,4 @@
--- A delivery ratio is an f64 from 0 to 1, and so is the loss beside it; the ETX of two ratios is an f64 from 1 to 100. Assumes nothing.
+-- A delivery ratio is an f64 from 0 to 1, and so is the loss beside it; the ETX of two ratios is an f64 from 1 to 100.
 use Prim.Native.Nat.{ℕ, _^_, _<_}
 use mathlib.Core.Bool.{cond}
 use lib.IntN.{pos}

@@ -1,4 +1,4 @@
--- A round trip taken from a report is whole milliseconds and in the estimator's range, so question 8 never refuses. Assumes nothing.
+-- A round trip taken from a report is whole milliseconds and in the estimator's range, so question 8 never refuses.
 use mathlib.Core.Path.{_≡_}
 use mathlib.Core.Bool.{Bool, true, false, cond}
 use mathlib.Core.List.{[], _∷_}
@@ -7,9 +7,9 @@ use native.Mathlib.Omega.{arith}
 use lib.Dec.{eqb, ltb, leb·zero}
 use lib.IntN.{pos}
 use borrow.Author.Tests.{le-leb}
-use Rattle.refusals.specs.Questions.{question, EachYes}
+use Rattle.refusals.specs.Questions.{question}
 use Rattle.refusals.specs.Ranges.{roundTripOk}
-use Rattle.refusals.proofs.FirstNoFound.{none-refuses}
+use Rattle.refusals.proofs.FirstNoFound.{EachYes, none-refuses}
 use Rattle.algorithms.specs.Srtt.{keepsRule, updateRefusal}
 use Rattle.algorithms.specs.declared.srtt.SrttEstimator.{SrttEstimator}
 use Rattle.wire.specs.declared.receiver_report.ReceiverReport.{ReceiverReport}

@@ -7,7 +7,7 @@ ghost use Rattle.figures.specs.RoundTrips.{roundTrip, millisecondsOf, ta
 ghost use Rattle.figures.specs.Delivery.{deliveryRatio};
 ghost use Rattle.figures.specs.Goodput.{goodputOk, towardRate, goodputOver, goodputAfter};
 use algorithms::srtt::SrttEstimator;
-use numbers::saturating_sub;
+use numbers::methods::saturating_sub_u64;
 use refusals::option::OptionU64;
 use wire::receiver_report::ReceiverReport;
 
@@ -152,6 +152,6 @@ pub fn goodput_after_unchecked(goodput: f64, bytes: u64, prev_ms: OptionU64, now
 {
     match prev_ms {
         OptionU64::None => goodput,
-        OptionU64::Some(ms) => goodput_over(goodput, bytes, saturating_sub(now_ms, ms)),
+        OptionU64::Some(ms) => goodput_over(goodput, bytes, saturating_sub_u64(now_ms, ms)),
     }
 }

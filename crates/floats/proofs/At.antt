@@ -1,5 +1,4 @@
 -- A finite value by its size a / c and its sign s, where a zero may have either sign: `At x s a c`. Values that are not negative are in the order of their sizes.
--- Assumes nothing.
 use mathlib.Core.Path.{_≡_, refl, sym, ap, _∙_}
 use mathlib.Core.Logic.{_⊎_, inl, inr}
 use Prim.Native.Nat.{ℕ, _*_, _≤_, _<_}

@@ -1,5 +1,4 @@
 -- A float as an integer: cut toward zero, an end of the range where it is beyond it, and 0 for a NaN. Clamping it to the range of a signed one first changes nothing.
--- Assumes nothing.
 use mathlib.Core.Path.{_≡_, refl, sym, ap, _∙_, subst}
 use mathlib.Core.Logic.{inl, inr}
 use Prim.Native.Nat.{ℕ, _-_, _*_, _/_, _^_, _≤_, _<_, min}

@@ -1,4 +1,4 @@
--- `clamped lo hi` ends in its range for every value but a NaN, and keeps the order. Assumes nothing.
+-- `clamped lo hi` ends in its range for every value but a NaN, and keeps the order.
 use mathlib.Core.Bool.{Bool, true, false, not, cond}
 use lib.Dec.{T}
 use lib.Ieee.{Float, lt, le, isNan}

@@ -1,4 +1,4 @@
--- 1 - x is from 0 to 1 where x is, rounding included. Assumes nothing.
+-- 1 - x is from 0 to 1 where x is, rounding included.
 use mathlib.Core.Path.{_≡_, refl, sym, _∙_}
 use mathlib.Core.Logic.{inl}
 use Prim.Native.Nat.{ℕ, _-_, _*_, _^_, _≤_, zero-le}

@@ -1,5 +1,4 @@
 -- Two signed fractions in order, by whole numbers alone: it is what `le` and `lt` of two finite floats test, and it is transitive.
--- Assumes nothing.
 use mathlib.Core.Path.{_≡_, sym, ap, _∙_, subst}
 use mathlib.Core.Logic.{_⊎_, inl, inr}
 use Prim.Native.Nat.{ℕ, _+_, _*_, _≤_, _<_}

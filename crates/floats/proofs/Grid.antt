@@ -1,5 +1,5 @@
 -- Rounding in whole numbers. `grid f a c` is a / c rounded to the format f, in units of f's smallest value 2 ^ -low. It keeps the order of fractions,
--- and what the format holds (`Held`) it leaves as it is. Assumes nothing.
+-- and what the format holds (`Held`) it leaves as it is.
 use mathlib.Core.Path.{_≡_, refl, sym, ap, _∙_, subst}
 use mathlib.Core.Logic.{inl}
 use Prim.Native.Nat.{ℕ, suc, _+_, _*_, _^_, _≤_, _<_, zero-le}

@@ -1,4 +1,4 @@
--- The laws of floats that the figures rest on. Assumes nothing.
+-- The laws of floats that the figures rest on.
 pub mod Tests
 pub mod Fractions
 pub mod Order

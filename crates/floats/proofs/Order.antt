@@ -1,5 +1,5 @@
 -- `le` and `lt` on every float but a NaN are a total order, in which the two zeros are one: `le` is reflexive, transitive and total, and `lt x y` holds
--- exactly where `le y x` fails. What is compared is no NaN. Assumes nothing.
+-- exactly where `le y x` fails. What is compared is no NaN.
 use mathlib.Core.Logic.{_⊎_, inl, inr}
 use Prim.Native.Nat.{_*_}
 use native.Mathlib.Nat.{le-refl}

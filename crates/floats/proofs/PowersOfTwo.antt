@@ -1,5 +1,4 @@
 -- Powers of two are floats, and a whole number times one is exact while it fits the digits.
--- Assumes nothing.
 use mathlib.Core.Path.{_≡_, sym, ap, _∙_}
 use mathlib.Core.Bool.{false}
 use Prim.Native.Nat.{ℕ, suc, _*_, _^_, _≤_, _<_}

@@ -1,4 +1,4 @@
--- A product, rounded once: of two values by their sizes, and the same either way round. Assumes nothing.
+-- A product, rounded once: of two values by their sizes, and the same either way round.
 use mathlib.Core.Path.{_≡_, refl, ap, _∙_}
 use mathlib.Core.Logic.{inl, inr}
 use Prim.Native.Nat.{ℕ, _*_, _^_, _<_}

@@ -1,4 +1,4 @@
--- A value from lo to hi: the test `inRange` decides it, a NaN is in no range, and -0.0 is in every range that 0.0 is in. Assumes nothing.
+-- A value from lo to hi: the test `inRange` decides it, a NaN is in no range, and -0.0 is in every range that 0.0 is in.
 use mathlib.Core.Path.{_≡_, refl}
 use mathlib.Core.Bool.{true, false, not}
 use lib.IntN.{pos}

@@ -1,4 +1,4 @@
--- The product of two ratios, rounded once, is from 0 to 1, and no smaller where a ratio is larger. Assumes nothing.
+-- The product of two ratios, rounded once, is from 0 to 1, and no smaller where a ratio is larger.
 use Prim.Native.Nat.{_*_, _^_, _≤_}
 use native.Mathlib.Nat.{le-trans, le-of-eq, lt-of-le-of-lt, mul-comm, mul-le-mul, mul-le-mul-right, mul-mul-mul-comm, mul-pos}
 use mathlib.Core.Bool.{false}

@@ -1,5 +1,5 @@
 -- One rounding: it keeps the order of fractions of either sign, a value that the format holds rounds to itself, and no result is a NaN.
--- `Rounds` says of a float that it is a fraction rounded once. Assumes nothing.
+-- `Rounds` says of a float that it is a fraction rounded once.
 use mathlib.Core.Path.{_≡_, refl, sym, ap, _∙_, subst}
 use Prim.Native.Nat.{ℕ, zero, suc, _*_, _^_, _<_, zero-le}
 use native.Mathlib.Nat.{le-trans, le-of-eq, zero-lt-suc, zero-mul}

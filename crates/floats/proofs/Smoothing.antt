@@ -1,5 +1,5 @@
 -- A smoothing step s + a * (x - s), each operation rounded once, for finite s and x that are not negative and a weight a of at most a half: the result lies
--- between s and x. Subnormals, -0.0 and the rounding of the difference are included. Assumes nothing.
+-- between s and x. Subnormals, -0.0 and the rounding of the difference are included.
 use mathlib.Core.Path.{_≡_, refl, sym, ap, _∙_, subst}
 use mathlib.Core.Logic.{inl, inr}
 use Prim.Native.Nat.{ℕ, zero, suc, _+_, _-_, _*_, _^_, _≤_, _<_, zero-le}

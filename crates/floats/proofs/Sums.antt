@@ -1,10 +1,10 @@
--- Sums and differences, rounded once: of two values by their sizes over one denominator, and the same either way round. Assumes nothing.
+-- Sums and differences, rounded once: of two values by their sizes over one denominator, and the same either way round.
 use mathlib.Core.Path.{_≡_, refl, sym, ap, _∙_, subst}
 use mathlib.Core.Logic.{inl, inr}
 use Prim.Native.Nat.{ℕ, _+_, _-_, _*_, _^_, _≤_, _<_}
 use native.Mathlib.Nat.{le-trans, le-of-eq, mul-comm, mul-assoc, mul-right-comm, mul-le-mul-right, le-of-mul-le-mul-right, mul-pos, mul-sub, add-mul, add-comm}
 use native.Mathlib.Omega.{arith}
-use mathlib.Core.Bool.{Bool, true, false, not, _&&_, cond, Bool·beq, true≢false, false≢true}
+use mathlib.Core.Bool.{Bool, true, false, not, _&&_, cond, Bool·beq, true≢false, false≢true, and-true}
 use lib.Dec.{T, ltb, ltb→lt, nltb→le}
 use lib.Ieee.{Float, nan, inf, fin, Format, low, up, down, round, neg, sum, add, sub}
 use lib.Ieee.Fits.{down-pos}
@@ -14,10 +14,6 @@ use Rattle.floats.proofs.At.{At, Sign, sign-of, empty, neg-at}
 use Rattle.floats.proofs.Rounding.{Rounds, rescale, rounds-at}
 
 -- ---- signed sums over one denominator
-and-yes : (t : Bool) → (t && true) ≡ t
-and-yes true = refl
-and-yes false = refl
-
 not-both : (t s : Bool) → t ≡ s → t ≡ not s → ⊥
 not-both t true p q = true≢false (sym p ∙ q)
 not-both t false p q = true≢false (sym q ∙ p)
@@ -41,7 +37,7 @@ module _ (f : Format) (a b c : ℕ) where
       go true y l g k (inr z) (inr w) = absurd (let i = l tt in let j : ⊥ = omega arith in j)
       go false y l g k (inr z) (inl e') = let i = g tt in (t && y, ap (λ (n : ℕ). round f (t && y) n c) (let o : a - b ≡ a + b = omega arith in o), inr (omega arith))
       go false y l g k (inr z) (inr w) = (t && y, ap (λ (n : ℕ). round f (t && y) n c) (let o : a - b ≡ a + b = omega arith in o), inr (omega arith))
-      go false true l g k (inl e) (inr w) = (t && true, ap (λ (n : ℕ). round f (t && true) n c) (let o : a - b ≡ a + b = omega arith in o), inl (and-yes t ∙ e))
+      go false true l g k (inl e) (inr w) = (t && true, ap (λ (n : ℕ). round f (t && true) n c) (let o : a - b ≡ a + b = omega arith in o), inl (and-true t ∙ e))
       go false false l g k (inl e) (inr w) = let i = k tt in (t && false, ap (λ (n : ℕ). round f (t && false) n c) (let o : a - b ≡ a + b = omega arith in o), inr (omega arith))
 
   sum-like : (t u s : Bool) → Sign t s a → Sign u s b → Rounds f (sum f t a u b c) s (a + b) c
@@ -64,7 +60,7 @@ module _ (f : Format) (a b c : ℕ) where
       go : (x y : Bool) → (T x → a < b) → (T y → b < a) → (T (not y) → a ≤ b) → Sign t s a
           → (v : Bool) × (cond x (round f u (b - a) c) (round f (t && y) (a - b) c) ≡ round f v (a - b) c) × Sign v s (a - b)
       go true y l g k p = absurd (let i = l tt in let j : ⊥ = omega arith in j)
-      go false true l g k (inl e) = (t && true, refl, inl (and-yes t ∙ e))
+      go false true l g k (inl e) = (t && true, refl, inl (and-true t ∙ e))
       go false true l g k (inr z) = (t && true, refl, inr (omega arith))
       go false false l g k p = let i = k tt in (t && false, refl, inr (omega arith))
 

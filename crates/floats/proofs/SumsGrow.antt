@@ -1,5 +1,5 @@
 -- A sum of values that are not negative is no smaller than either, after its rounding too, and the addends of a number are numbers; the lesser of two values says of
--- both that they are not negative. Assumes nothing.
+-- both that they are not negative.
 use mathlib.Core.Path.{_≡_, refl, sym, subst}
 use mathlib.Core.Logic.{inl, inr}
 use Prim.Native.Nat.{ℕ, _+_, _*_, _^_, _≤_, _<_}

@@ -1,5 +1,4 @@
 -- A test of the code as a fact: what a proof learns where a test passed or failed, in the form that the laws of the order take.
--- Assumes nothing.
 use mathlib.Core.Path.{_≡_, sym, subst}
 use mathlib.Core.Bool.{Bool, true, false, not}
 use lib.Dec.{T}

@@ -1,14 +1,14 @@
--- Each call behind its questions ends within a tracker's rule. Assumes nothing.
+-- Each call behind its questions ends within a tracker's rule.
 use mathlib.Core.Path.{_≡_, refl}
 use mathlib.Core.Bool.{true}
 use mathlib.Core.List.{[], _∷_}
 use Prim.Native.Nat.{ℕ}
 use Rattle.refusals.specs.Questions.{question}
 use Rattle.refusals.proofs.FirstNoFound.{each-yes}
-use Rattle.gaps.specs.Gaps.{keepsRule, Fits, burstsOk}
+use Rattle.gaps.specs.Gaps.{keepsRule, burstsOk}
 use Rattle.gaps.specs.Checked.{refusalOf, observeRefusal, observeOf, finishOf, takeOf}
 use Rattle.gaps.specs.declared.GapTracker.{GapTracker}
-use Rattle.gaps.proofs.RuleKept.{observed-keeps-rule, closed-keeps-rule, stats-keep-rule}
+use Rattle.gaps.proofs.RuleKept.{Fits, observed-keeps-rule, burst-finished-keeps-rule, stats-keep-rule}
 
 -- that a burst's length is 16 bits is its type's
 module _ (t : GapTracker) (f : Fits t) where
@@ -24,7 +24,7 @@ module _ (t : GapTracker) (f : Fits t) where
 
   pub finish-keeps-rule : finishOf t .refusal ≡ 0 → keepsRule (finishOf t .tracker) ≡ true
   unfolding finishOf
-  finish-keeps-rule h = rw h (closed-keeps-rule t (lawful h) f)
+  finish-keeps-rule h = rw h (burst-finished-keeps-rule t (lawful h) f)
 
   pub take-keeps-rule : takeOf t .refusal ≡ 0 → keepsRule (takeOf t .tracker) ≡ true
   unfolding takeOf

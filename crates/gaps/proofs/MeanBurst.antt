@@ -1,5 +1,4 @@
 -- The mean burst in 1/256 of a frame: the whole number 256 × total / count, at most 65,535, is what the Rust's route through floats gives.
--- Assumes nothing.
 use mathlib.Core.Path.{_≡_, refl, sym, ap, _∙_, subst}
 use mathlib.Core.Logic.{inl}
 use Prim.Native.Nat.{ℕ, zero, suc, _+_, _-_, _*_, _/_, _^_, _≤_, _<_, min}
@@ -20,10 +19,10 @@ use Rattle.floats.proofs.Products.{mul-at}
 use Rattle.floats.proofs.Quotients.{div-is}
 use Rattle.floats.proofs.Casts.{cast-unsigned}
 use Rattle.floats.specs.Operations.{rounded-quotient}
-use Rattle.gaps.specs.Gaps.{maxLength, keepsRule, Fits, closed}
+use Rattle.gaps.specs.Gaps.{maxLength, keepsRule, burstFinished}
 use Rattle.gaps.specs.Stats.{meanBurst, floatRoute, statsOf}
 use Rattle.gaps.specs.declared.GapTracker.{GapTracker}
-use Rattle.gaps.proofs.RuleKept.{kept, closed-kept, closed-outside, finished-outside}
+use Rattle.gaps.proofs.RuleKept.{Fits, kept, burst-finished-kept, burst-finished-outside, finished-outside}
 
 -- ---- in whole numbers: a quotient below n / 256, of a count of at most 2 ^ 32, is below it by 2 ^ -40 at least
 wide-enough : (t c n K : ℕ) → K ≡ 2 ^ 32 → c ≤ 2 ^ 32 → t * 256 + 1 ≤ n * c → t * 1 * 2 ^ 40 ≤ (n * K - 1) * (c * 1)
@@ -166,8 +165,8 @@ mean-burst-is-float-route t c h top = go (eqb c 0) (eqb-false c 0)
 
 -- what a report says of a tracker that keeps its rule is the Rust's mean
 pub stats-mean-is-float-route : (t : GapTracker) → keepsRule t ≡ true → Fits t → statsOf t .count < 2 ^ 32
-    → statsOf t .mean ≡ cond (eqb (statsOf t .count) 0) 0 (floatRoute binary64 (closed t .«total_burst_len») (statsOf t .count))
+    → statsOf t .mean ≡ cond (eqb (statsOf t .count) 0) 0 (floatRoute binary64 (burstFinished t .«total_burst_len») (statsOf t .count))
 unfolding statsOf
 stats-mean-is-float-route t h f few =
-    let k = closed-kept t (kept t h) f in
-    mean-burst-is-float-route (closed t .«total_burst_len») (closed t .«burst_count») few (omega (arith, k .total, finished-outside (closed t) (closed-outside t)))
+    let k = burst-finished-kept t (kept t h) f in
+    mean-burst-is-float-route (burstFinished t .«total_burst_len») (burstFinished t .«burst_count») few (omega (arith, k .total, finished-outside (burstFinished t) (burst-finished-outside t)))

@@ -1,26 +1,29 @@
 -- Each call ends within a tracker's rule: a new tracker keeps it, and so does the tracker after a frame whose burst can be counted, and after a report.
--- Assumes nothing.
 use mathlib.Core.Path.{_≡_, refl, sym, ap, _∙_}
-use mathlib.Core.Bool.{Bool, true, false, cond, not, _&&_, _||_, true≢false, and-eq-true-iff}
-use Prim.Native.Nat.{ℕ, _+_, _-_, _*_, _%_, _^_, _≤_, _<_, min}
+use mathlib.Core.Bool.{true, false, cond, not, _&&_, _||_, true≢false, and-eq-true-iff}
+use Prim.Native.Nat.{ℕ, _+_, _-_, _*_, _^_, _≤_, _<_, min}
 use native.Mathlib.Omega.{arith}
 use lib.Dec.{leb, eqb}
 use borrow.Author.Tests.{leb-true, le-leb, eqb-true, eqb-false, eq-eqb, ltb-true, not-false}
 use Rattle.refusals.specs.Ranges.{counterOk}
+use Rattle.refusals.proofs.Clauses.{either, or}
+use Rattle.refusals.proofs.PickedByTest.{picked}
 use Rattle.refusals.specs.declared.option.OptionU64.{OptionU64}
 use Rattle.refusals.specs.declared.option.OptionU64.the-variants.{None, Some}
-use Rattle.gaps.specs.Gaps.{maxLength, maxCounter, finishedBursts, keepsRule, Kept, Fits, fresh, gapAt, beginsBurst, burstsOk, nextAfter, expecting, burst, ended, closed, missed, moved, observedAfter, observed}
+use Rattle.gaps.specs.Gaps.{maxLength, maxCounter, finishedBursts, keepsRule, fresh, gapAt, beginsBurst, burstsOk, nextAfter, expecting, burstRecorded, burstFinished, gapCounted, gapObserved, observedAfter, observed}
 use Rattle.gaps.specs.Stats.{statsOf}
 use Rattle.gaps.specs.declared.GapTracker.{GapTracker}
 
 -- ---- the rule by its clauses
-either : (a b : Bool) → (a || b) ≡ true → a ≡ false → b ≡ true
-either true b h e = absurd (true≢false e)
-either false b h e = h
+-- the rule's clauses by name
+pub record Kept (t : GapTracker) : Type 0 where
+  pub outside : t .«in_burst» ≡ false → t .«current_burst_len» ≡ 0
+  pub inside : t .«in_burst» ≡ true → 1 ≤ t .«burst_count»
+  pub total : t .«total_burst_len» ≤ maxLength * finishedBursts t
 
-or : (a b : Bool) → (a ≡ false → b ≡ true) → (a || b) ≡ true
-or true b h = refl
-or false b h = h refl
+-- what the type of the current length keeps
+abbrev pub Fits : GapTracker → Type 0
+Fits t = t .«current_burst_len» ≤ maxLength
 
 pub kept : (t : GapTracker) → keepsRule t ≡ true → Kept t
 unfolding keepsRule
@@ -57,48 +60,33 @@ unfolding finishedBursts
 finished-outside t e = ap (λ b. cond b (t .«burst_count» - 1) (t .«burst_count»)) e
 
 -- ---- a burst ends
-pub closed-kept : (t : GapTracker) → Kept t → Fits t → Kept (closed t)
-unfolding closed finishedBursts
-closed-kept t k f = go (t .«in_burst») refl
+pub burst-finished-kept : (t : GapTracker) → Kept t → Fits t → Kept (burstFinished t)
+unfolding burstFinished finishedBursts
+burst-finished-kept t k f = picked Kept (t .«in_burst») recorded (λ e. k)
   where
-    go : (b : Bool) → t .«in_burst» ≡ b → Kept (cond b (ended t) t)
-    go true e =
-        let n = k .inside e in
-        let l = k .total in
-        record { outside = λ z. refl; inside = λ z. absurd (true≢false (sym z)); total = omega (arith, l, n, f, finished-inside t e) }
-    go false e = k
+    recorded : t .«in_burst» ≡ true → Kept (burstRecorded t)
+    recorded e =
+        record { outside = λ z. refl; inside = λ z. absurd (true≢false (sym z)); total = omega (arith, k .total, k .inside e, f, finished-inside t e) }
 
-pub closed-keeps-rule : (t : GapTracker) → keepsRule t ≡ true → Fits t → keepsRule (closed t) ≡ true
-closed-keeps-rule t h f = keeps (closed t) (closed-kept t (kept t h) f)
+pub burst-finished-keeps-rule : (t : GapTracker) → keepsRule t ≡ true → Fits t → keepsRule (burstFinished t) ≡ true
+burst-finished-keeps-rule t h f = keeps (burstFinished t) (burst-finished-kept t (kept t h) f)
 
-pub closed-outside : (t : GapTracker) → closed t .«in_burst» ≡ false
-unfolding closed
-closed-outside t = go (t .«in_burst») refl
-  where
-    go : (b : Bool) → t .«in_burst» ≡ b → cond b (ended t) t .«in_burst» ≡ false
-    go true e = refl
-    go false e = e
+pub burst-finished-outside : (t : GapTracker) → burstFinished t .«in_burst» ≡ false
+unfolding burstFinished
+burst-finished-outside t = picked (λ (u : GapTracker). u .«in_burst» ≡ false) (t .«in_burst») (λ e. refl) (λ e. e)
 
 -- ---- a gap
-missed-kept : (t : GapTracker) (gap : ℕ) → Kept t → (t .«in_burst» ≡ false → t .«burst_count» + 1 < 2 ^ 32) → Kept (missed t gap)
-unfolding missed finishedBursts
-missed-kept t gap k room = go (t .«in_burst») refl
-  where
-    go : (b : Bool) → t .«in_burst» ≡ b
-        → Kept (cond b (burst t (t .«in_burst») (min (t .«current_burst_len» + gap % 65536) maxLength) (t .«burst_count»)) (burst t true (gap % 65536) (min (t .«burst_count» + 1) 4294967295)))
-    go true e = record { outside = λ z. absurd (true≢false (sym e ∙ z)); inside = k .inside; total = k .total }
-    go false e =
-        let r = room e in
-        let l = k .total in
-        record { outside = λ z. absurd (true≢false z); inside = λ z. omega arith; total = omega (arith, l, r, finished-outside t e) }
+gap-counted-kept : (t : GapTracker) (gap : ℕ) → Kept t → (t .«in_burst» ≡ false → t .«burst_count» + 1 < 2 ^ 32) → Kept (gapCounted t gap)
+unfolding gapCounted finishedBursts
+gap-counted-kept t gap k room =
+    picked Kept (t .«in_burst») (λ e. record { outside = λ z. absurd (true≢false (sym e ∙ z)); inside = k .inside; total = k .total })
+    (λ e. record { outside = λ z. absurd (true≢false z); inside = λ z. omega arith; total = omega (arith, k .total, room e, finished-outside t e) })
 
-moved-kept : (t : GapTracker) (gap : ℕ) → Kept t → Fits t → (t .«in_burst» ≡ false → 1 ≤ gap → t .«burst_count» + 1 < 2 ^ 32) → Kept (moved t gap)
-unfolding moved
-moved-kept t gap k f room = go (eqb gap 0) (eqb-false gap 0)
-  where
-    go : (b : Bool) → (b ≡ false → gap ≡ 0 → ⊥) → Kept (cond b (closed t) (missed t gap))
-    go true n = closed-kept t k f
-    go false n = let m = n refl in missed-kept t gap k (λ e. room e (omega arith))
+gap-observed-kept : (t : GapTracker) (gap : ℕ) → Kept t → Fits t → (t .«in_burst» ≡ false → 1 ≤ gap → t .«burst_count» + 1 < 2 ^ 32) → Kept (gapObserved t gap)
+unfolding gapObserved
+gap-observed-kept t gap k f room =
+    picked Kept (eqb gap 0) (λ e. burst-finished-kept t k f)
+    (λ e. let m = eqb-false gap 0 e in gap-counted-kept t gap k (λ o. room o (omega arith)))
 
 expecting-kept : (t : GapTracker) (next : ℕ) → Kept t → Kept (expecting t next)
 unfolding finishedBursts
@@ -116,32 +104,20 @@ observed-keeps-rule t counter h f b = keeps _ (go (t .«expected_next») (room-a
   where
     go : (due : OptionU64) → (t .«in_burst» ≡ false → 1 ≤ gapAt due counter → t .«burst_count» + 1 < 2 ^ 32) → Kept (observedAfter due t counter .tracker)
     go None room = expecting-kept t (min (counter + 1) maxCounter) (kept t h)
-    go (Some expected) room = expecting-kept (moved t (counter - expected)) (nextAfter expected counter) (moved-kept t (counter - expected) (kept t h) f room)
+    go (Some expected) room = expecting-kept (gapObserved t (counter - expected)) (nextAfter expected counter) (gap-observed-kept t (counter - expected) (kept t h) f room)
 
 -- ---- the current length stays within its type
-closed-fits : (t : GapTracker) → Fits t → Fits (closed t)
-unfolding closed
-closed-fits t f = go (t .«in_burst»)
-  where
-    go : (b : Bool) → Fits (cond b (ended t) t)
-    go true = omega arith
-    go false = f
+burst-finished-fits : (t : GapTracker) → Fits t → Fits (burstFinished t)
+unfolding burstFinished
+burst-finished-fits t f = picked Fits (t .«in_burst») (λ e. omega arith) (λ e. f)
 
-missed-fits : (t : GapTracker) (gap : ℕ) → Fits (missed t gap)
-unfolding missed
-missed-fits t gap = go (t .«in_burst»)
-  where
-    go : (b : Bool) → Fits (cond b (burst t (t .«in_burst») (min (t .«current_burst_len» + gap % 65536) maxLength) (t .«burst_count»)) (burst t true (gap % 65536) (min (t .«burst_count» + 1) 4294967295)))
-    go true = omega arith
-    go false = omega arith
+gap-counted-fits : (t : GapTracker) (gap : ℕ) → Fits (gapCounted t gap)
+unfolding gapCounted
+gap-counted-fits t gap = picked Fits (t .«in_burst») (λ e. omega arith) (λ e. omega arith)
 
-moved-fits : (t : GapTracker) (gap : ℕ) → Fits t → Fits (moved t gap)
-unfolding moved
-moved-fits t gap f = go (eqb gap 0)
-  where
-    go : (b : Bool) → Fits (cond b (closed t) (missed t gap))
-    go true = closed-fits t f
-    go false = missed-fits t gap
+gap-observed-fits : (t : GapTracker) (gap : ℕ) → Fits t → Fits (gapObserved t gap)
+unfolding gapObserved
+gap-observed-fits t gap f = picked Fits (eqb gap 0) (λ e. burst-finished-fits t f) (λ e. gap-counted-fits t gap)
 
 pub observed-fits : (t : GapTracker) (counter : ℕ) → Fits t → Fits (observed t counter .tracker)
 unfolding observed
@@ -149,7 +125,7 @@ observed-fits t counter f = go (t .«expected_next»)
   where
     go : (due : OptionU64) → Fits (observedAfter due t counter .tracker)
     go None = f
-    go (Some expected) = moved-fits t (counter - expected) f
+    go (Some expected) = gap-observed-fits t (counter - expected) f
 
 -- ---- a new tracker, and a report
 pub fresh-keeps-rule : keepsRule fresh ≡ true
@@ -159,9 +135,9 @@ fresh-keeps-rule = refl
 pub stats-keep-rule : (t : GapTracker) → keepsRule t ≡ true → Fits t → keepsRule (statsOf t .tracker) ≡ true
 unfolding statsOf finishedBursts
 stats-keep-rule t h f =
-    let o = closed-outside t in
-    keeps _ (record { outside = closed-kept t (kept t h) f .outside; inside = λ e. absurd (true≢false (sym e ∙ o)); total = omega arith })
+    let o = burst-finished-outside t in
+    keeps _ (record { outside = burst-finished-kept t (kept t h) f .outside; inside = λ e. absurd (true≢false (sym e ∙ o)); total = omega arith })
 
 pub stats-fit : (t : GapTracker) → Fits t → Fits (statsOf t .tracker)
 unfolding statsOf
-stats-fit t f = closed-fits t f
+stats-fit t f = burst-finished-fits t f

@@ -4,7 +4,7 @@ use mathlib.Core.List.{[], _∷_}
 use Prim.Native.Nat.{ℕ}
 use lib.Dec.{eqb}
 use Rattle.refusals.specs.Questions.{question, firstNo}
-use Rattle.gaps.specs.Gaps.{keepsRule, burstsOk, closed, observed}
+use Rattle.gaps.specs.Gaps.{keepsRule, burstsOk, burstFinished, observed}
 use Rattle.gaps.specs.Stats.{statsOf}
 use Rattle.gaps.specs.declared.GapTracker.{GapTracker}
 use Rattle.gaps.specs.declared.checked.GapObserved.{GapObserved}
@@ -28,7 +28,7 @@ observeOf t counter = observedBy (observeRefusal t counter) t counter
 
 -- the burst under way ends
 unfoldable pub finishOf : GapTracker → GapUpdate
-finishOf t = record { refusal = refusalOf t; tracker = cond (eqb (refusalOf t) 0) (closed t) t }
+finishOf t = record { refusal = refusalOf t; tracker = cond (eqb (refusalOf t) 0) (burstFinished t) t }
 
 -- an interval's bursts where the refusal is n: the figures, and nothing counted in the next; zeros and the tracker as given on a refusal
 abbrev pub takenBy : ℕ → GapTracker → GapStats

@@ -1,7 +1,6 @@
 -- Gaps in the counters as bursts of lost frames: document 01, "Jitter, delay trend and bursts", and receiver.rs, `GapTracker`. Definitions only.
 use mathlib.Core.Bool.{Bool, true, false, cond, not, _&&_, _||_}
-use Prim.Native.Nat.{ℕ, _+_, _-_, _*_, _%_, _≤_, min, max}
-use mathlib.Core.Path.{_≡_}
+use Prim.Native.Nat.{ℕ, _+_, _-_, _*_, _%_, min, max}
 use lib.Dec.{leb, eqb}
 use Rattle.refusals.specs.Ranges.{counterOk}
 use Rattle.refusals.specs.declared.option.OptionU64.{OptionU64}
@@ -26,16 +25,6 @@ finishedBursts t = cond (t .«in_burst») (t .«burst_count» - 1) (t .«burst_c
 unfoldable pub keepsRule : GapTracker → Bool
 keepsRule t =
     (t .«in_burst» || eqb (t .«current_burst_len») 0) && (not (t .«in_burst») || leb 1 (t .«burst_count»)) && leb (t .«total_burst_len») (maxLength * finishedBursts t)
-
--- the rule's clauses by name
-pub record Kept (t : GapTracker) : Type 0 where
-  pub outside : t .«in_burst» ≡ false → t .«current_burst_len» ≡ 0
-  pub inside : t .«in_burst» ≡ true → 1 ≤ t .«burst_count»
-  pub total : t .«total_burst_len» ≤ maxLength * finishedBursts t
-
--- what the type of the current length keeps
-abbrev pub Fits : GapTracker → Type 0
-Fits t = t .«current_burst_len» ≤ maxLength
 
 -- no frame yet
 abbrev pub fresh : GapTracker
@@ -92,9 +81,9 @@ burst t underway len count =
       «total_burst_len» = t .«total_burst_len»;
     }
 
--- the burst under way ends: its length is in the greatest and in the total
-abbrev pub ended : GapTracker → GapTracker
-ended t =
+-- the burst under way is recorded: its length is in the greatest and in the total
+abbrev pub burstRecorded : GapTracker → GapTracker
+burstRecorded t =
     record {
       «expected_next» = t .«expected_next»;
       «in_burst» = false;
@@ -105,23 +94,27 @@ ended t =
     }
 
 -- no burst is under way any more
-unfoldable pub closed : GapTracker → GapTracker
-closed t = cond (t .«in_burst») (ended t) t
+unfoldable pub burstFinished : GapTracker → GapTracker
+burstFinished t = cond (t .«in_burst») (burstRecorded t) t
 
--- "takes a gap's low 16 bits, and adds within a burst saturating at 65,535"
-unfoldable pub missed : GapTracker → ℕ → GapTracker
-missed t gap =
-    cond (t .«in_burst») (burst t (t .«in_burst») (min (t .«current_burst_len» + gap % 65536) maxLength) (t .«burst_count»))
-    (burst t true (gap % 65536) (min (t .«burst_count» + 1) 4294967295))
+-- "takes a gap's low 16 bits"
+abbrev pub gapLength : ℕ → ℕ
+gapLength gap = gap % 65536
+
+-- "and adds within a burst saturating at 65,535"; outside one the gap begins one
+unfoldable pub gapCounted : GapTracker → ℕ → GapTracker
+gapCounted t gap =
+    cond (t .«in_burst») (burst t (t .«in_burst») (min (t .«current_burst_len» + gapLength gap) maxLength) (t .«burst_count»))
+    (burst t true (gapLength gap) (min (t .«burst_count» + 1) 4294967295))
 
 -- a gap is a burst or part of one; a frame in order, or a late one, ends it
-unfoldable pub moved : GapTracker → ℕ → GapTracker
-moved t gap = cond (eqb gap 0) (closed t) (missed t gap)
+unfoldable pub gapObserved : GapTracker → ℕ → GapTracker
+gapObserved t gap = cond (eqb gap 0) (burstFinished t) (gapCounted t gap)
 
 -- a frame of this counter after one that made `due` due
 abbrev pub observedAfter : OptionU64 → GapTracker → ℕ → Observed
 observedAfter None t counter = record { lost = 0; tracker = expecting t (min (counter + 1) maxCounter) }
-observedAfter (Some expected) t counter = record { lost = counter - expected; tracker = expecting (moved t (counter - expected)) (nextAfter expected counter) }
+observedAfter (Some expected) t counter = record { lost = counter - expected; tracker = expecting (gapObserved t (counter - expected)) (nextAfter expected counter) }
 
 -- a frame of this counter
 unfoldable pub observed : GapTracker → ℕ → Observed

@@ -4,7 +4,7 @@ use Prim.Native.Nat.{ℕ, _*_, _/_, min}
 use lib.Dec.{eqb}
 use lib.Ieee.{Format, mul, toUnsigned}
 use Rattle.floats.specs.Operations.{float, rounded-quotient}
-use Rattle.gaps.specs.Gaps.{maxLength, closed}
+use Rattle.gaps.specs.Gaps.{maxLength, burstFinished}
 use Rattle.gaps.specs.declared.GapTracker.{GapTracker}
 use Rattle.gaps.specs.declared.IntervalStats.{IntervalStats}
 
@@ -34,4 +34,4 @@ figures t = record { count = t .«burst_count»; max = t .«max_burst_len»; mea
 
 -- "A report closes an open burst", then says the interval's bursts
 unfoldable pub statsOf : GapTracker → IntervalStats
-statsOf t = figures (closed t)
+statsOf t = figures (burstFinished t)

@@ -3,11 +3,13 @@
 pub mod checked; // checked.rt: the calls behind their questions
 
 ghost use mathlib.Core.Path.{_≡_};
-ghost use Prim.Native.Nat.{_+_, _%_, min, max};
-ghost use Rattle.gaps.specs.Gaps.{keepsRule, finishedBursts, fresh, gapAt, beginsBurst, burstsOk, expecting, nextAfter, closed, missed, moved, observed};
+ghost use Rattle.gaps.specs.Gaps.{keepsRule, finishedBursts, fresh, gapAt, beginsBurst, burstsOk, expecting, nextAfter, burstFinished, gapLength, gapCounted, gapObserved, observed};
 ghost use Rattle.gaps.specs.Stats.{meanBurst, statsOf};
-use numbers::saturating_add;
-use numbers::saturating_sub;
+use numbers::methods::max_u16;
+use numbers::methods::saturating_add_u16;
+use numbers::methods::saturating_add_u32;
+use numbers::methods::saturating_add_u64;
+use numbers::methods::saturating_sub_u64;
 use refusals::option::OptionU64;
 use refusals::ranges::counter_u32_ok;
 
@@ -45,34 +47,9 @@ pub struct IntervalStats {
     pub tracker: GapTracker,
 }
 
-// Rust's `a.saturating_add(b)`.
-fn saturating_add_u16(a: u16, b: u16) -> u16
-    ensures { λ r. ⌜ r ≡ min (a + b) 65535 ⌝ }
-{
-    if a <= 65_535 - b { a + b } else { 65_535 }
-}
-
-// Rust's `a.saturating_add(b)`.
-fn saturating_add_u64(a: u64, b: u64) -> u64
-    ensures { λ r. ⌜ r ≡ min (a + b) 18446744073709551615 ⌝ }
-{
-    if a <= 18_446_744_073_709_551_615 - b {
-        a + b
-    } else {
-        18_446_744_073_709_551_615
-    }
-}
-
-// Rust's `a.max(b)`.
-fn longer(a: u16, b: u16) -> u16
-    ensures { λ r. ⌜ r ≡ max a b ⌝ }
-{
-    if a < b { b } else { a }
-}
-
 // Rust's `gap as u16`.
-fn low_bits(gap: u64) -> u16
-    ensures { λ r. ⌜ r ≡ gap % 65536 ⌝ }
+fn gap_len(gap: u64) -> u16
+    ensures { λ r. ⌜ r ≡ gapLength gap ⌝ }
 {
     (gap % 65_536) as u16
 }
@@ -94,7 +71,7 @@ fn gap_at(expected_next: OptionU64, counter: u64) -> u64
 {
     match expected_next {
         OptionU64::None => 0,
-        OptionU64::Some(expected) => saturating_sub(counter, expected),
+        OptionU64::Some(expected) => saturating_sub_u64(counter, expected),
     }
 }
 
@@ -131,7 +108,7 @@ impl GapTracker {
         ensures { λ r. ⌜ r ≡ finishedBursts self ⌝ }
     {
         if self.in_burst {
-            saturating_sub(self.burst_count as u64, 1) as u32
+            saturating_sub_u64(self.burst_count as u64, 1) as u32
         } else {
             self.burst_count
         }
@@ -178,12 +155,12 @@ impl GapTracker {
 
     // Finish the current burst and record its stats.
     pub fn finish_burst_unchecked(self) -> GapTracker
-        ensures { λ r. ⌜ r ≡ closed self ⌝ }
+        ensures { λ r. ⌜ r ≡ burstFinished self ⌝ }
     {
         if self.in_burst {
             let len = self.current_burst_len;
             let mut t = self;
-            t.max_burst_len = longer(t.max_burst_len, len);
+            t.max_burst_len = max_u16(t.max_burst_len, len);
             t.total_burst_len = saturating_add_u64(t.total_burst_len, len as u64);
             t.in_burst = false;
             t.current_burst_len = 0;
@@ -193,10 +170,10 @@ impl GapTracker {
     }
 
     // A gap begins a burst, or extends the one under way.
-    fn missed(self, gap: u64) -> GapTracker
-        ensures { λ r. ⌜ r ≡ missed self gap ⌝ }
+    fn count_gap(self, gap: u64) -> GapTracker
+        ensures { λ r. ⌜ r ≡ gapCounted self gap ⌝ }
     {
-        let len = low_bits(gap);
+        let len = gap_len(gap);
         let mut t = self;
         if self.in_burst {
             t.current_burst_len = saturating_add_u16(self.current_burst_len, len);
@@ -204,18 +181,18 @@ impl GapTracker {
         }
         t.in_burst = true;
         t.current_burst_len = len;
-        t.burst_count = saturating_add(self.burst_count, 1);
+        t.burst_count = saturating_add_u32(self.burst_count, 1);
         t
     }
 
     // A frame in order ends a burst.
-    fn moved(self, gap: u64) -> GapTracker
-        ensures { λ r. ⌜ r ≡ moved self gap ⌝ }
+    fn observe_gap(self, gap: u64) -> GapTracker
+        ensures { λ r. ⌜ r ≡ gapObserved self gap ⌝ }
     {
         if gap == 0 {
             self.finish_burst_unchecked()
         } else {
-            self.missed(gap)
+            self.count_gap(gap)
         }
     }
 
@@ -230,9 +207,9 @@ impl GapTracker {
                 Observed { lost: 0, tracker }
             }
             OptionU64::Some(expected) => {
-                let lost = saturating_sub(counter, expected);
+                let lost = saturating_sub_u64(counter, expected);
                 let next = next_after(expected, counter);
-                let tracker = self.moved(lost).expecting(next);
+                let tracker = self.observe_gap(lost).expecting(next);
                 Observed { lost, tracker }
             }
         }

@@ -1,4 +1,4 @@
--- What the calls keep, and what they leave. Assumes nothing.
+-- What the calls keep, and what they leave.
 pub mod QuestionsAnswered
 pub mod ReportsByCase
 pub mod FiguresInRange

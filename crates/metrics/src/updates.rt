@@ -6,7 +6,7 @@ use crate::MetricsUpdate;
 use crate::MmpMetrics;
 use algorithms::etx::compute_etx_unchecked;
 use figures::delivery_ratio_unchecked;
-use numbers::saturating_sub;
+use numbers::methods::saturating_sub_u64;
 use refusals::option::OptionU64;
 
 impl MmpMetrics {
@@ -71,8 +71,8 @@ impl MmpMetrics {
     fn reverse_moved(self, packets: u64, highest: u64) -> MmpMetrics
         ensures { λ r. ⌜ r ≡ reverseMoved self packets highest ⌝ }
     {
-        let counter_span = saturating_sub(highest, self.prev_reverse_highest);
-        let packets_delta = saturating_sub(packets, self.prev_reverse_packets);
+        let counter_span = saturating_sub_u64(highest, self.prev_reverse_highest);
+        let packets_delta = saturating_sub_u64(packets, self.prev_reverse_packets);
         if self.has_prev_reverse & (0 < counter_span) {
             let ratio = delivery_ratio_unchecked(packets_delta, counter_span);
             let etx = compute_etx_unchecked(self.delivery_ratio_forward, ratio);

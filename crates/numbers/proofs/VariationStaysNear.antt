@@ -1,6 +1,5 @@
 -- Where SRTT is less than g from the exact average, above or below, RTTVAR stays less than g + 3 from the exact variation. For any
 -- samples and any gap.
--- Assumes nothing.
 use mathlib.Core.Path.{_≡_, refl, ap}
 use mathlib.Core.List.{List, [], _∷_, _++_, foldl}
 use Prim.Native.Nat.{ℕ, suc, _+_, _*_, _-_, _/_, _%_, _^_, _≤_}

@@ -1,4 +1,4 @@
--- The part of a payload from a position on, and that from its start on a payload decodes as `decode` says. Assumes nothing.
+-- The part of a payload from a position on, and that from its start on a payload decodes as `decode` says.
 use Prim.Native.Nat.{ℕ, _-_}
 use mathlib.Core.Path.{_≡_, refl}
 use mathlib.Core.List.{List}

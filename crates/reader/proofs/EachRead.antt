@@ -1,5 +1,4 @@
 -- What a lent reader is asked to read, each as `LentRead` takes it: a field of each width, and the bytes of each width.
--- Assumes nothing: these are definitions.
 use mir.Syntax.{tyInt, tyArray, w8, w16, w32, w64}
 use denote.Struct.Field.{u8-field, u16-field, u32-field, u64-field, array-field}
 use denote.Struct.Laws.{u8-laws, u8-plain, u16-laws, u16-plain, u32-laws, u32-plain, u64-laws, u64-plain, array-laws, array-plain}

@@ -1,5 +1,4 @@
 -- What a reader owns: its payload's slice can be lent to a callee with its place beside it, and what it owns after a move is what it owned before.
--- Assumes nothing.
 use mathlib.Core.Path.{_≡_, refl}
 use mathlib.Core.List.{List, [], _∷_}
 use Prim.Native.Nat.{_<_, _^_}

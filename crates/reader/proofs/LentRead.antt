@@ -1,7 +1,6 @@
 -- A read of a reader that is lent by `&mut`, for every answer and every function on a slice and a place: a method whose MIR is `function` answers what the function does and moves the
 -- reader to the answer's place, so it meets each contract that says no more. The borrow of the reader is opened, its payload and its position go to the function, the place of the answer is stored, and the borrow is closed at the reader moved there.
 -- A method's own Proof.antt keeps what only it can name: its contract, its code and the theorem of the function that it calls are modules made for it.
--- Assumes nothing.
 use mathlib.Core.Path.{_≡_, refl, sym, ap, subst}
 use mathlib.Core.List.{List, [], _∷_}
 use Prim.Native.Nat.{ℕ, _<_, _^_}

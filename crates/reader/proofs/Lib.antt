@@ -1,4 +1,4 @@
--- The walks of functions over a held payload, and what decoding from a position comes to. Assumes nothing.
+-- The walks of functions over a held payload, and what decoding from a position comes to.
 mod Beside
 mod WrittenOut
 mod Held

@@ -1,5 +1,5 @@
 -- A reader is made at a position of a payload and lent to one of its reads, for every read: a function whose MIR is `function` answers what the read finds there, so it meets each contract that says no more. The
--- local that holds the reader is lent for a lifetime of its own, within the payload's; the read moves it; the lifetime is ended, and the local is the function's again. Assumes nothing.
+-- local that holds the reader is lent for a lifetime of its own, within the payload's; the read moves it; the lifetime is ended, and the local is the function's again.
 use mathlib.Core.Path.{_≡_, refl, sym, subst}
 use mathlib.Core.List.{List, [], _∷_}
 use Prim.Native.Nat.{ℕ, _<_, _^_}

@@ -1,6 +1,6 @@
 -- A function that makes a reader of its payload and calls a method on it, for every question that a method of `PassedOn`'s form answers: a function whose MIR is `function` has the answer from the
 -- payload's start, so it meets each contract that says no more. The reader that `new` returns is held in a local, where MIR erases the lifetime of the struct's type, so its value is shown to have the
--- type at `erased`. Assumes nothing.
+-- type at `erased`.
 use mathlib.Core.Path.{_≡_, refl, sym, ap, _∙_, subst}
 use Prim.Native.Nat.{ℕ}
 use mathlib.Core.List.{List, [], _∷_}

@@ -1,15 +1,14 @@
 -- What a reader by value is asked, each as `PassedOn` takes it: how many bytes are left, and for the report that stands at its position.
--- Assumes nothing: these are definitions.
 use Prim.Native.Nat.{_-_}
 use lib.ListN.{length}
 use mir.Syntax.{tyInt, w64}
 use denote.Builtin.{usize}
 use denote.Plain.{uint-lawful}
 use denote.Struct.Laws.{lawful}
-use Rattle.wire.proofs.sender_report.Decoded as Sender
-use Rattle.wire.proofs.sender_report.Decoded.Laws as Sender′
-use Rattle.wire.proofs.receiver_report.Decoded as Receiver
-use Rattle.wire.proofs.receiver_report.Decoded.Laws as Receiver′
+use Rattle.wire.proofs.sender_report.SenderReportDecoded as Sender
+use Rattle.wire.proofs.sender_report.SenderReportDecoded.Laws as Sender′
+use Rattle.wire.proofs.receiver_report.ReceiverReportDecoded as Receiver
+use Rattle.wire.proofs.receiver_report.ReceiverReportDecoded.Laws as Receiver′
 use Rattle.reader.specs.Reports.{senderAt, receiverAt}
 use Rattle.reader.proofs.PassedOn.{Question}
 

@@ -1,5 +1,4 @@
 -- A type with its one MIR type written out: what is made of it, MIR and layout, then computes while the type itself stays open. At a type that has this MIR type it is the type.
--- Assumes nothing: these are definitions.
 use mathlib.Core.List.{[], _∷_}
 use mir.Syntax.{Ty}
 use denote.RattleType.{RattleType}

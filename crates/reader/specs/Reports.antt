@@ -6,13 +6,13 @@ use lib.ListN.{drop}
 use Rattle.codec.specs.Reading.{lengthAnswer}
 use Rattle.wire.specs.SenderReport as Sender
 use Rattle.wire.specs.ReceiverReport as Receiver
-use Rattle.wire.specs.declared.sender_report.Decoded as SenderDecoded
-use Rattle.wire.specs.declared.receiver_report.Decoded as ReceiverDecoded
+use Rattle.wire.specs.declared.sender_report.SenderReportDecoded.{SenderReportDecoded}
+use Rattle.wire.specs.declared.receiver_report.ReceiverReportDecoded.{ReceiverReportDecoded}
 
 -- a sender report from a position on
-unfoldable pub senderAt : List ℕ → ℕ → SenderDecoded.Decoded
+unfoldable pub senderAt : List ℕ → ℕ → SenderReportDecoded
 senderAt s pos = Sender.decodedBy (lengthAnswer s pos 47) (Sender.reportIn (drop pos s))
 
 -- a receiver report from a position on
-unfoldable pub receiverAt : List ℕ → ℕ → ReceiverDecoded.Decoded
+unfoldable pub receiverAt : List ℕ → ℕ → ReceiverReportDecoded
 receiverAt s pos = Receiver.decodedBy (lengthAnswer s pos 67) (Receiver.reportIn (drop pos s))

@@ -1,4 +1,5 @@
 // `Reader`, holding the payload that it was given: thin functions over those on a slice and a place. Their MIR is walked by hand, once for each form.
+// A `read_*` moves the position past what it read, and one that is too short leaves it; a `decode_*` leaves it.
 pub mod reports; // reports.rt: the decoding of each report
 pub mod reads; // reads.rt: each read, by a reader made at a position
 
@@ -37,7 +38,6 @@ impl<'a> Reader<'a> {
         left_at(self.buf, self.pos)
     }
 
-    // A read moves the position; one that is too short leaves it.
     pub fn read_u8(&mut self) -> ReadU8
         ensures { λ r. ⌜ (r ≡ readU8 (now (now (self .entry) .buf)) (placeOf (now (self .entry))))
             × (now (self .exit) ≡ movedTo (now (self .entry)) (readU8 (now (now (self .entry) .buf)) (placeOf (now (self .entry))) .place)) ⌝ }

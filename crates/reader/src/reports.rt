@@ -9,20 +9,22 @@ use codec::reader::Length;
 use codec::reader::needed_for;
 use codec::reader::require;
 use wire::receiver_report;
+use wire::receiver_report::ReceiverReportDecoded;
 use wire::sender_report;
+use wire::sender_report::SenderReportDecoded;
 
-pub fn sender_report_at(s: &[u8], pos: usize) -> sender_report::Decoded
+pub fn decode_sender_report_at(s: &[u8], pos: usize) -> SenderReportDecoded
     ensures { λ r. ⌜ r ≡ senderAt (now (s .entry)) pos ⌝ }
 {
     let Length::Enough = require(s, Place { pos }, 47) else {
-        return sender_report::Decoded {
+        return SenderReportDecoded {
             refusal: 7,
             needed: needed_for(pos, 47),
             given: s.len(),
             report: sender_report::no_report(),
         };
     };
-    sender_report::Decoded {
+    SenderReportDecoded {
         refusal: 0,
         needed: 0,
         given: 0,
@@ -30,18 +32,18 @@ pub fn sender_report_at(s: &[u8], pos: usize) -> sender_report::Decoded
     }
 }
 
-pub fn receiver_report_at(s: &[u8], pos: usize) -> receiver_report::Decoded
+pub fn decode_receiver_report_at(s: &[u8], pos: usize) -> ReceiverReportDecoded
     ensures { λ r. ⌜ r ≡ receiverAt (now (s .entry)) pos ⌝ }
 {
     let Length::Enough = require(s, Place { pos }, 67) else {
-        return receiver_report::Decoded {
+        return ReceiverReportDecoded {
             refusal: 7,
             needed: needed_for(pos, 67),
             given: s.len(),
             report: receiver_report::no_report(),
         };
     };
-    receiver_report::Decoded {
+    ReceiverReportDecoded {
         refusal: 0,
         needed: 0,
         given: 0,
@@ -50,28 +52,28 @@ pub fn receiver_report_at(s: &[u8], pos: usize) -> receiver_report::Decoded
 }
 
 impl<'a> Reader<'a> {
-    pub fn sender_report(self) -> sender_report::Decoded
+    pub fn decode_sender_report(self) -> SenderReportDecoded
         ensures { λ r. ⌜ r ≡ senderAt (now (self .entry .buf)) (self .entry .pos) ⌝ }
     {
-        sender_report_at(self.buf, self.pos)
+        decode_sender_report_at(self.buf, self.pos)
     }
 
-    pub fn receiver_report(self) -> receiver_report::Decoded
+    pub fn decode_receiver_report(self) -> ReceiverReportDecoded
         ensures { λ r. ⌜ r ≡ receiverAt (now (self .entry .buf)) (self .entry .pos) ⌝ }
     {
-        receiver_report_at(self.buf, self.pos)
+        decode_receiver_report_at(self.buf, self.pos)
     }
 }
 
 // The same answer as `SenderReport::decode`: whoever calls this needs no walk.
-pub fn decode_sender_report(payload: &[u8]) -> sender_report::Decoded
+pub fn decode_sender_report(payload: &[u8]) -> SenderReportDecoded
     ensures { λ r. ⌜ r ≡ Sender.decoded (now (payload .entry)) ⌝ }
 {
-    Reader::new(payload).sender_report()
+    Reader::new(payload).decode_sender_report()
 }
 
-pub fn decode_receiver_report(payload: &[u8]) -> receiver_report::Decoded
+pub fn decode_receiver_report(payload: &[u8]) -> ReceiverReportDecoded
     ensures { λ r. ⌜ r ≡ Receiver.decoded (now (payload .entry)) ⌝ }
 {
-    Reader::new(payload).receiver_report()
+    Reader::new(payload).decode_receiver_report()
 }

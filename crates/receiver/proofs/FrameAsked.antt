@@ -1,7 +1,6 @@
 -- What a frame that nothing refuses knows of its record and its arguments, and that counting moves nothing that the windows hang on.
--- Assumes nothing.
 use mathlib.Core.Path.{_≡_, refl}
-use mathlib.Core.Bool.{Bool, true, false, not, _&&_, _||_, and-eq-true-iff}
+use mathlib.Core.Bool.{Bool, true, not, _&&_, and-eq-true-iff, or-true}
 use mathlib.Core.List.{List, [], _∷_}
 use Prim.Native.Nat.{ℕ, _+_, _^_, _≤_}
 use native.Mathlib.Omega.{arith}
@@ -18,7 +17,7 @@ use Rattle.samples.specs.Delay.{delayOf, windowFor}
 use Rattle.samples.proofs.DelayInRange.{delay-in-range}
 use Rattle.samples.proofs.SampleKeepsRule.{window-keeps-rule, window-keeps-capacity}
 use Rattle.receiver.specs.State.{keepsRule}
-use Rattle.receiver.specs.Frames.{Room, counted, countersOk, pushes, slotFor, takenTimes, takenDelays, sampleOk, frameRefusal}
+use Rattle.receiver.specs.Frames.{Room, counted, countersOk, pushes, slotFor, timesAfter, delaysAfter, sampleOk, frameRefusal}
 use Rattle.receiver.specs.declared.ReceiverState.{ReceiverState}
 use Rattle.receiver.proofs.QuestionsAnswered.{kept}
 
@@ -61,13 +60,9 @@ frame-asked s times delays counter timestamp bytes now sampled h =
       bursts = all .1;
     }
 
-or-yes : (b : Bool) → (b || true) ≡ true
-or-yes true = refl
-or-yes false = refl
-
 -- the sample that a frame pushes is in range, whatever the record, the timestamp and the clock
 pub sample-in-range : (s : ReceiverState) (timestamp now : ℕ) (sampled : Bool) → sampleOk s timestamp now sampled ≡ true
-sample-in-range s timestamp now sampled = rw (delay-in-range (s .«owd_ref») timestamp now) (or-yes (not (pushes s now sampled)))
+sample-in-range s timestamp now sampled = rw (delay-in-range (s .«owd_ref») timestamp now) (or-true (not (pushes s now sampled)))
 
 -- so that question 5 can be left out: the number of the first no is the same
 pub delay-question-left-out : (s : ReceiverState) (times : List ℕ) (delays : List ℤ) (counter timestamp bytes now : ℕ) (sampled : Bool)
@@ -88,10 +83,10 @@ pushed-sample-accepted s times delays counter timestamp bytes now sampled h =
     (window-keeps-rule (s .«owd_trend») (s .«owd_ref») now (kept s (y .rule) .window), (rw (window-keeps-capacity (s .«owd_trend») (s .«owd_ref») now) (y .windows), (delay-in-range (s .«owd_ref») timestamp now, tt)))
 
 module _ (s : ReceiverState) (counter bytes : ℕ) (ce : Bool) (timestamp now : ℕ) (sampled : Bool) where
-  pub counted-times : (times : List ℕ) → takenTimes (counted s counter bytes ce) times timestamp now sampled ≡ takenTimes s times timestamp now sampled
-  unfolding takenTimes pushes slotFor counted
+  pub counted-times : (times : List ℕ) → timesAfter (counted s counter bytes ce) times timestamp now sampled ≡ timesAfter s times timestamp now sampled
+  unfolding timesAfter pushes slotFor counted
   counted-times times = refl
 
-  pub counted-delays : (delays : List ℤ) → takenDelays (counted s counter bytes ce) delays timestamp now sampled ≡ takenDelays s delays timestamp now sampled
-  unfolding takenDelays pushes slotFor counted
+  pub counted-delays : (delays : List ℤ) → delaysAfter (counted s counter bytes ce) delays timestamp now sampled ≡ delaysAfter s delays timestamp now sampled
+  unfolding delaysAfter pushes slotFor counted
   counted-delays delays = refl

@@ -1,14 +1,15 @@
 // A report is built.
 
 ghost use mathlib.Core.Path.{_≡_};
-ghost use Rattle.receiver.specs.Reports.{saturated, reportOf, reported, noneBuilt, built, builtOf};
+ghost use Rattle.receiver.specs.Reports.{reportOf, reported, noneBuilt, built, builtOf};
 use crate::ReceiverState;
 use gaps::GapTracker;
 use gaps::IntervalStats;
+use numbers::methods::saturating_u64_to_u32;
 use refusals::option::OptionU64;
 use refusals::questions::Questions;
 use refusals::ranges::clock_ok;
-use samples::echo_of_unchecked;
+use samples::echo::echo_of_unchecked;
 use wire::receiver_report::ReceiverReport;
 use wire::receiver_report::no_report;
 
@@ -18,17 +19,6 @@ pub struct ReceiverReportBuilt {
     pub some: bool,
     pub report: ReceiverReport,
     pub state: ReceiverState,
-}
-
-// Saturates rather than wraps, so the peer never sees a count fall.
-fn saturated(count: u64) -> u32
-    ensures { λ r. ⌜ r ≡ saturated count ⌝ }
-{
-    if count <= 4_294_967_295 {
-        count as u32
-    } else {
-        4_294_967_295
-    }
 }
 
 // No report: a refusal, or nothing received.
@@ -63,7 +53,8 @@ impl ReceiverState {
             ecn_ce_count: self.ecn_ce_count,
             owd_trend,
             burst_loss_count: stats.count,
-            cumulative_reorder_count: saturated(self.cumulative_reorder_count),
+            // Saturates rather than wraps, so the peer never sees a count fall.
+            cumulative_reorder_count: saturating_u64_to_u32(self.cumulative_reorder_count),
             interval_packets_recv: self.interval_packets_recv,
             interval_bytes_recv: self.interval_bytes_recv,
         }

@@ -1,12 +1,25 @@
--- What the number of the first no says of every list of questions, and of document 01's eleven.
--- Assumes nothing.
+-- What the number of the first no says of every list of questions.
 use mathlib.Core.Path.{_≡_, refl, sym, ap}
-use mathlib.Core.Bool.{Bool, true, false, cond, true≢false, and-eq-true-iff}
+use mathlib.Core.Bool.{Bool, true, false, cond, true≢false, _&&_, and-eq-true-iff}
 use mathlib.Core.List.{List, [], _∷_, _++_}
 use Prim.Native.Nat.{ℕ}
 use lib.Dec.{ltb}
-use Rattle.refusals.specs.Questions.{Question, question, firstNo, asked, EachYes, numbered, Refusal, EveryYes}
-use Rattle.refusals.specs.declared.questions.Questions.{Questions}
+use Rattle.refusals.specs.Questions.{Question, question, firstNo}
+
+-- every answer is yes: a row of yeses
+abbrev pub EachYes : List Question → Type 0
+EachYes [] = Unit {0}
+EachYes (q ∷ qs) = (q .answer ≡ true) × EachYes qs
+
+-- no question has the number 0, which says that none refused
+abbrev pub numbered : List Question → Bool
+numbered [] = true
+numbered (q ∷ qs) = ltb 0 (q .number) && numbered qs
+
+-- what a refusal means: every answer is yes and it is 0; or it is the number of a question that is answered no, and those before it are answered yes
+pub data Refusal : List Question → ℕ → Type 0 where
+  accepted : {qs : List Question} → EachYes qs → Refusal qs 0
+  refused : (before : List Question) (q : Question) (after : List Question) → EachYes before → q .answer ≡ false → Refusal (before ++ q ∷ after) (q .number)
 
 one-more : (n : ℕ) (b : Bool) (qs : List Question) {k : ℕ} → Refusal qs k → Refusal (question n b ∷ qs) (cond b k n)
 one-more n true qs (Refusal.accepted h) = let y : EachYes (question n true ∷ qs) = (refl, h) in Refusal.accepted y
@@ -43,22 +56,3 @@ pub yes-left-out : (before after : List Question) (n : ℕ) → firstNo (before 
 unfolding firstNo
 yes-left-out [] after n = refl
 yes-left-out (q ∷ before) after n = ap (λ (k : ℕ). cond (q .answer) k (q .number)) (yes-left-out before after n)
-
--- document 01's eleven, by their names
-pub every-yes : (q : Questions) → firstNo (asked q) ≡ 0 → EveryYes q
-unfolding asked
-every-yes q h =
-    let y : EachYes (asked q) = each-yes (asked q) refl h in
-    record {
-      state = y .0;
-      clocks = y .1 .0;
-      «frame_size» = y .1 .1 .0;
-      windows = y .1 .1 .1 .0;
-      «delay_samples» = y .1 .1 .1 .1 .0;
-      «output_buffer» = y .1 .1 .1 .1 .1 .0;
-      payload = y .1 .1 .1 .1 .1 .1 .0;
-      «round_trip» = y .1 .1 .1 .1 .1 .1 .1 .0;
-      «interval_bounds» = y .1 .1 .1 .1 .1 .1 .1 .1 .0;
-      counters = y .1 .1 .1 .1 .1 .1 .1 .1 .1 .0;
-      values = y .1 .1 .1 .1 .1 .1 .1 .1 .1 .1 .0;
-    }

@@ -1,5 +1,4 @@
 -- A clock that may be missing is in range exactly where the number in its place is.
--- Assumes nothing.
 use mathlib.Core.Path.{_≡_, refl, ap, _∙_}
 use Prim.Native.Nat.{ℕ}
 use Rattle.refusals.specs.Answers.{orZero}

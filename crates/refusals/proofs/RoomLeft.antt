@@ -1,5 +1,4 @@
 -- A counter holds a sum exactly where it is at most what the sum's other part leaves of the range.
--- Assumes nothing.
 use mathlib.Core.Path.{_≡_, refl, sym}
 use mathlib.Core.Bool.{Bool, true, false}
 use Prim.Native.Nat.{ℕ, _+_, _-_, _<_}

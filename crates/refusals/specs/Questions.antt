@@ -1,9 +1,7 @@
 -- The questions put before any figure: document 01, "Before any figure: the checks". Definitions only.
-use mathlib.Core.Path.{_≡_}
-use mathlib.Core.Bool.{Bool, true, false, cond, _&&_}
-use mathlib.Core.List.{List, [], _∷_, _++_}
+use mathlib.Core.Bool.{Bool, true, cond}
+use mathlib.Core.List.{List, [], _∷_}
 use Prim.Native.Nat.{ℕ}
-use lib.Dec.{ltb}
 use Rattle.refusals.specs.declared.questions.Questions.{Questions}
 
 -- a question of document 01's list: its number, and whether its answer is yes
@@ -52,32 +50,3 @@ allYes =
       counters = true;
       values = true;
     }
-
--- every answer is yes: a row of yeses
-abbrev pub EachYes : List Question → Type 0
-EachYes [] = Unit {0}
-EachYes (q ∷ qs) = (q .answer ≡ true) × EachYes qs
-
--- no question has the number 0, which says that none refused
-abbrev pub numbered : List Question → Bool
-numbered [] = true
-numbered (q ∷ qs) = ltb 0 (q .number) && numbered qs
-
--- what a refusal means: every answer is yes and it is 0; or it is the number of a question that is answered no, and those before it are answered yes
-pub data Refusal : List Question → ℕ → Type 0 where
-  accepted : {qs : List Question} → EachYes qs → Refusal qs 0
-  refused : (before : List Question) (q : Question) (after : List Question) → EachYes before → q .answer ≡ false → Refusal (before ++ q ∷ after) (q .number)
-
--- the eleven answers are yes, each by its name
-pub record EveryYes (q : Questions) : Type 0 where
-  pub state : q .state ≡ true
-  pub clocks : q .clocks ≡ true
-  pub «frame_size» : q .«frame_size» ≡ true
-  pub windows : q .windows ≡ true
-  pub «delay_samples» : q .«delay_samples» ≡ true
-  pub «output_buffer» : q .«output_buffer» ≡ true
-  pub payload : q .payload ≡ true
-  pub «round_trip» : q .«round_trip» ≡ true
-  pub «interval_bounds» : q .«interval_bounds» ≡ true
-  pub counters : q .counters ≡ true
-  pub values : q .values ≡ true

@@ -1,29 +1,30 @@
 // The groups of calls. A call gets the line's numbers, and its buffer or its windows where it takes them; it answers by value, but for the calls that answer
 // a part of their buffer.
-use crate::etx_calls;
-use crate::ewma_calls;
-use crate::field_calls;
-use crate::figure_calls;
-use crate::gap_calls;
-use crate::held_calls;
-use crate::jitter_calls;
-use crate::metrics_calls;
-use crate::owd_calls;
-use crate::reader_calls;
-use crate::receiver_calls;
+mod etx_calls;
+mod ewma_calls;
+mod field_calls;
+mod figure_calls;
+mod gap_calls;
+mod held_calls;
+mod jitter_calls;
+mod metrics_calls;
+mod owd_calls;
+mod reader_calls;
+mod receiver_calls;
+mod sample_calls;
+mod sender_calls;
+mod spin_calls;
+mod srtt_calls;
+mod window_calls;
+mod wire_calls;
+mod writer_calls;
+
+use crate::lent::bytes_of;
+use crate::lent::lent_bytes;
+use crate::lent::push_bytes;
 use crate::reply::Reply;
-use crate::sample_calls;
-use crate::sender_calls;
 use crate::shape::last_argument;
-use crate::spin_calls;
-use crate::srtt_calls;
-use crate::tables::bytes_of;
-use crate::tables::lent;
-use crate::tables::push_buffer;
 use crate::tables::u64_of;
-use crate::window_calls;
-use crate::wire_calls;
-use crate::writer_calls;
 
 // The answer to a line, and how many numbers it has: 0 where the line is malformed.
 pub fn answer(given: &[u64], answer: &mut [u64]) -> usize {
@@ -64,7 +65,7 @@ fn reply_of(given: &[u64]) -> Reply {
 fn with_bytes(given: &[u64], at: usize, answer: &mut [u64]) -> usize {
     let mut room = [0u8; 1024];
     let n = bytes_of(given, at, &mut room);
-    on_bytes(given, lent(&mut room, n), answer)
+    on_bytes(given, lent_bytes(&mut room, n), answer)
 }
 
 fn on_bytes(given: &[u64], bytes: &mut [u8], answer: &mut [u64]) -> usize {
@@ -80,7 +81,7 @@ fn with_reply(given: &[u64], bytes: &mut [u8], answer: &mut [u64]) -> usize {
     let reply = reply_on(given, bytes);
     let n = reply.push(answer);
     if reply.with_buffer {
-        return push_buffer(answer, n, bytes);
+        return push_bytes(answer, n, bytes);
     }
     n
 }

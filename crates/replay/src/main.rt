@@ -1,29 +1,11 @@
 // Answers a script of calls, one line for each, as docs/REPLAY.md says.
 mod calls;
-mod etx_calls;
-mod ewma_calls;
-mod field_calls;
-mod figure_calls;
-mod gap_calls;
-mod held_calls;
-mod jitter_calls;
-mod metrics_calls;
-mod owd_calls;
-mod reader_calls;
-mod receiver_calls;
+mod lent;
 mod reply;
-mod sample_calls;
 mod scan;
-mod sender_calls;
 mod shape;
-mod spin_calls;
-mod srtt_calls;
 mod tables;
 mod text;
-mod window_calls;
-mod windows;
-mod wire_calls;
-mod writer_calls;
 
 use libc::STDIN_FILENO;
 use scan::Scan;
@@ -107,7 +89,7 @@ fn take_some(p: Progress, chunk: &mut [u8], given: &mut [u64], out: &mut [u8]) -
         return last;
     }
     let n = io::count(got, chunk);
-    take_bytes(p, tables::first_bytes(chunk, n), given, out)
+    take_bytes(p, lent::first_bytes(chunk, n), given, out)
 }
 
 // A proved loop has to end, and nothing says that the script does. So the loop counts its turns down, from a number that no run uses up.

@@ -1,4 +1,6 @@
 // What a call answers, by value: numbers, and whether the call's buffer stands behind them.
+use crate::lent::push_bare;
+use crate::lent::push_numbers;
 use crate::tables::first;
 use crate::tables::flag;
 use crate::tables::float_pattern;
@@ -6,7 +8,6 @@ use crate::tables::is_there;
 use crate::tables::number;
 use crate::tables::pattern;
 use crate::tables::pattern64;
-use crate::tables::push_all;
 use crate::tables::wide_u8;
 use crate::tables::wide_u32;
 use refusals::answer::AnswerBool;
@@ -108,13 +109,14 @@ impl Reply {
 
     // Bytes more, with no length.
     pub fn and_bytes(self, bytes: &[u8]) -> Reply {
-        let mut reply = self;
-        let mut i = 0;
-        while i < bytes.len() {
-            reply = reply.and_u8(bytes[i]);
-            i += 1;
+        let mut numbers = self.numbers;
+        let count = push_bare(&mut numbers, self.count, bytes);
+        let with_buffer = self.with_buffer;
+        Reply {
+            count,
+            numbers,
+            with_buffer,
         }
-        reply
     }
 
     // With the call's buffer behind the numbers.
@@ -128,7 +130,7 @@ impl Reply {
     pub fn push(self, answer: &mut [u64]) -> usize {
         let count = self.count;
         let numbers = self.numbers;
-        push_all(answer, 0, first(&numbers, count))
+        push_numbers(answer, 0, first(&numbers, count))
     }
 }
 

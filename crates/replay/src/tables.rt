@@ -1,7 +1,7 @@
 // Tables of numbers and bytes. Every function is total: what lies past the end reads as 0, and what has no room is left out.
-use codec::fields::bits32;
-use codec::fields::signed32;
+use numbers::signs::bits32;
 use numbers::signs::signed;
+use numbers::signs::signed32;
 use numbers::signs::unsigned;
 use refusals::option::OptionU32;
 use refusals::option::OptionU64;
@@ -19,20 +19,6 @@ pub fn from(s: &[u64], n: usize) -> &[u64] {
         return &s[n..];
     }
     &s[0..0]
-}
-
-pub fn first_bytes(s: &[u8], n: usize) -> &[u8] {
-    if n <= s.len() {
-        return &s[0..n];
-    }
-    s
-}
-
-pub fn lent(s: &mut [u8], n: usize) -> &mut [u8] {
-    if n <= s.len() {
-        return &mut s[0..n];
-    }
-    s
 }
 
 pub fn u64_of(given: &[u64], i: usize) -> u64 {
@@ -169,74 +155,11 @@ pub fn after_bytes(given: &[u64], at: usize) -> usize {
     given.len()
 }
 
-fn store(room: &mut [u8], i: usize, b: u8) {
-    if i < room.len() {
-        room[i] = b;
-    }
-}
-
-// Takes the bytes whose length stands at `at`, as far as there is room, and answers how many.
-pub fn bytes_of(given: &[u64], at: usize, room: &mut [u8]) -> usize {
-    let n = usize_of(given, at);
-    let mut from = at;
-    let mut i = 0;
-    while i < room.len() {
-        if i >= n {
-            break;
-        }
-        if from >= given.len() {
-            break;
-        }
-        from += 1;
-        store(room, i, u8_of(given, from));
-        i += 1;
-    }
-    i
-}
-
 // Puts a number behind the n that are there, and answers how many there are now.
 pub fn push(answer: &mut [u64], n: usize, x: u64) -> usize {
     if n < answer.len() {
         answer[n] = x;
         return n + 1;
-    }
-    n
-}
-
-// The numbers behind the n that are there.
-pub fn push_all(answer: &mut [u64], n: usize, s: &[u64]) -> usize {
-    let mut count = n;
-    let mut i = 0;
-    while i < s.len() {
-        count = push(answer, count, s[i]);
-        i += 1;
-    }
-    count
-}
-
-// The bytes alone.
-pub fn push_bytes(answer: &mut [u64], n: usize, s: &[u8]) -> usize {
-    let mut count = n;
-    let mut i = 0;
-    while i < s.len() {
-        count = push(answer, count, wide_u8(s[i]));
-        i += 1;
-    }
-    count
-}
-
-// The length and the bytes.
-pub fn push_buffer(answer: &mut [u64], n: usize, s: &[u8]) -> usize {
-    let next = push(answer, n, wide(s.len()));
-    push_bytes(answer, next, s)
-}
-
-// The bytes from `start` to before `end`, with their length.
-pub fn push_span(answer: &mut [u64], n: usize, s: &[u8], start: usize, end: usize) -> usize {
-    if start <= end {
-        if end <= s.len() {
-            return push_buffer(answer, n, &s[start..end]);
-        }
     }
     n
 }

@@ -1,6 +1,6 @@
 // The answers as text. It waits in a buffer, which is written when it is full and when the script ends. After a write that failed nothing more is taken up
 // or written.
-use crate::tables::first_bytes;
+use crate::lent::first_bytes;
 use libc::STDERR_FILENO;
 use libc::STDOUT_FILENO;
 

@@ -1,31 +1,28 @@
 -- A sample's age is below 2^30 ms, so its delay is within ±2^42 µs: question 5 of a pushed sample can't be answered no.
--- Assumes nothing.
 use mathlib.Core.Path.{_≡_, refl, ap, _∙_}
-use mathlib.Core.Bool.{Bool, true, false, cond}
+use mathlib.Core.Bool.{Bool, true, false}
 use Prim.Native.Nat.{ℕ, suc, _+_, _-_, _*_, _^_, _≤_, _<_}
 use native.Mathlib.Omega.{arith}
-use lib.Dec.{leb, ltb}
+use lib.Dec.{ltb}
 use lib.IntN.{pos, negsuc, subℕ, _-ℤ_, _*ℤ_}
 use borrow.Author.Tests.{leb-false, ltb-true, ltb-false, le-leb}
 use mir.Syntax.{w32}
 use mir.Val.{toZ}
 use mir.Facts.{toZ-pos, toZ-neg}
 use Rattle.refusals.specs.Ranges.{delayOk}
+use Rattle.refusals.proofs.PickedByTest.{picked}
 use Rattle.samples.specs.Words.{modulo, reduced}
-use Rattle.samples.specs.Delay.{span, base, younger, baseOf, ageOf, sentMs, delayUs, delayOf}
-use Rattle.samples.specs.declared.OwdReference.{OwdReference}
-use Rattle.samples.specs.declared.OwdReference.the-variants.{None, Some}
-use Rattle.samples.proofs.Differences.{minus, multiple}
+use Rattle.samples.specs.Delay.{span, tooOld, younger, baseOf, ageOf, sentMs, delayUs, delayOf}
+use Rattle.samples.specs.declared.delay.OwdBase.{OwdBase}
+use Rattle.samples.specs.declared.delay.OwdReference.{OwdReference}
+use Rattle.samples.specs.declared.delay.OwdReference.the-variants.{None, Some}
+use Rattle.samples.proofs.Differences.{by-sign, minus, multiple}
 use Rattle.samples.proofs.Reduction.{modulo-below}
 
 pub age-below : (r : OwdReference) (timestamp now : ℕ) → ageOf r timestamp now < span
 unfolding ageOf younger
 age-below None timestamp now = omega arith
-age-below (Some recv sent) timestamp now = go (leb span (now - recv)) (leb-false span (now - recv))
-  where
-    go : (b : Bool) → (b ≡ false → now - recv < span) → now - cond b (base now timestamp) (base recv sent) .«recv_ms» < span
-    go true f = omega arith
-    go false f = f refl
+age-below (Some recv sent) timestamp now = picked (λ (b : OwdBase). now - b .«recv_ms» < span) (tooOld recv now) (λ e. omega arith) (leb-false span (now - recv))
 
 -- a difference read as signed, by its sign
 pub near : (age word : ℕ) → word < 2 ^ 31 → delayUs age (toZ w32 word) ≡ subℕ (1000 * age) (1000 * word)
@@ -48,11 +45,7 @@ low : (n : ℕ) → suc n ≤ 2 ^ 42 → delayOk (negsuc n) ≡ true
 low n h = rw (le-leb n (2 ^ 42 - 1) (omega arith))
 
 apart : (a b : ℕ) → a ≤ 2 ^ 42 → b ≤ 2 ^ 42 → delayOk (subℕ a b) ≡ true
-apart a b ha hb = go (ltb a b) (ltb-true a b)
-  where
-    go : (t : Bool) → (t ≡ true → a < b) → delayOk (cond t (negsuc (b - suc a)) (pos (a - b))) ≡ true
-    go true f = let l = f refl in low (b - suc a) (omega arith)
-    go false f = high (a - b) (omega arith)
+apart a b ha hb = by-sign (λ z. delayOk z ≡ true) a b (λ l. low (b - suc a) (omega arith)) (λ l. high (a - b) (omega arith))
 
 in-range : (age word : ℕ) → age < span → word < 2 ^ 32 → delayOk (delayUs age (toZ w32 word)) ≡ true
 in-range age word ha hw = go (ltb word (2 ^ 31)) (ltb-true word (2 ^ 31)) (ltb-false word (2 ^ 31))

@@ -1,22 +1,17 @@
 -- Every whole number is a difference of two naturals; what sums, negatives and multiples of differences come to.
--- Assumes nothing.
 use mathlib.Core.Path.{_≡_, refl, sym, ap, _∙_}
-use mathlib.Core.Bool.{Bool, true, false, cond}
 use Prim.Native.Nat.{ℕ, zero, suc, _+_, _-_, _*_, _≤_, _<_}
 use native.Mathlib.Nat.{mul-add}
 use native.Mathlib.Omega.{arith}
 use lib.Dec.{ltb}
 use lib.IntN.{ℤ, pos, negsuc, negℤ, subℕ, _+ℤ_, _-ℤ_, _*ℤ_}
 use borrow.Author.Tests.{ltb-true, ltb-false}
+use Rattle.refusals.proofs.PickedByTest.{picked}
 
 -- by the test that tells the sign of a − b
 module _ (P : ℤ → Type 0) (a b : ℕ) where
-  by-sign : (a < b → P (negsuc (b - suc a))) → (b ≤ a → P (pos (a - b))) → P (subℕ a b)
-  by-sign below above = go (ltb a b) (ltb-true a b) (ltb-false a b)
-    where
-      go : (t : Bool) → (t ≡ true → a < b) → (t ≡ false → b ≤ a) → P (cond t (negsuc (b - suc a)) (pos (a - b)))
-      go true l g = below (l refl)
-      go false l g = above (g refl)
+  pub by-sign : (a < b → P (negsuc (b - suc a))) → (b ≤ a → P (pos (a - b))) → P (subℕ a b)
+  by-sign below above = picked P (ltb a b) (λ e. below (ltb-true a b e)) (λ e. above (ltb-false a b e))
 
 -- a − b is n, and −1 − n
 difference-pos : (a b n : ℕ) → a ≡ n + b → subℕ a b ≡ pos n

@@ -1,4 +1,4 @@
--- Delays and differences in 32 bits, and the rule of the OWD reference kept. Assumes nothing.
+-- Delays and differences in 32 bits, and the rule of the OWD reference kept.
 pub mod Differences
 pub mod Reduction
 pub mod WrappedTimestamp

@@ -1,17 +1,14 @@
 -- What reduction to 32 bits means: the result is within signed 32 bits, a number within them stays, and a whole span of 2^32 makes no difference.
--- Assumes nothing.
-use mathlib.Core.Path.{_≡_, refl, ap, _∙_}
-use mathlib.Core.Bool.{Bool, true, false, cond}
+use mathlib.Core.Path.{_≡_, ap, _∙_}
 use Prim.Native.Nat.{ℕ, suc, _+_, _-_, _*_, _%_, _^_, _≤_, _<_}
 use native.Mathlib.Omega.{arith}
-use lib.Dec.{ltb}
 use lib.IntN.{ℤ, pos, negsuc, subℕ, _+ℤ_}
 use lib.Signed.{mag}
-use borrow.Author.Tests.{ltb-true, ltb-false}
 use mir.Syntax.{w32}
 use mir.Val.{SFits, toZ, ofZ}
 use mir.Facts.{toZ-ofZ, sfits-toZ}
 use Rattle.samples.specs.Words.{modulo, reduced}
+use Rattle.samples.proofs.Differences.{by-sign}
 
 pub modulo-below : (z : ℤ) → modulo z < 2 ^ 32
 unfolding modulo
@@ -21,11 +18,7 @@ modulo-below (negsuc n) = omega arith
 -- a − b, where b is at most so many spans
 pub modulo-difference : (a b spans : ℕ) → b ≤ 2 ^ 32 * spans → modulo (subℕ a b) ≡ (a + (2 ^ 32 * spans - b)) % 2 ^ 32
 unfolding modulo
-modulo-difference a b spans h = go (ltb a b) (ltb-true a b) (ltb-false a b)
-  where
-    go : (t : Bool) → (t ≡ true → a < b) → (t ≡ false → b ≤ a) → modulo (cond t (negsuc (b - suc a)) (pos (a - b))) ≡ (a + (2 ^ 32 * spans - b)) % 2 ^ 32
-    go true l g = let x = l refl in omega arith
-    go false l g = let x = g refl in omega arith
+modulo-difference a b spans h = by-sign (λ z. modulo z ≡ (a + (2 ^ 32 * spans - b)) % 2 ^ 32) a b (λ l. omega arith) (λ l. omega arith)
 
 pub reduced-fits : (z : ℤ) → SFits w32 (reduced z)
 unfolding reduced
@@ -42,12 +35,7 @@ reduced-kept z f = ap (toZ w32) (bits z (f .sfits)) ∙ toZ-ofZ {w = w32} {z = z
 modulo-again : (z : ℤ) (spans : ℕ) → modulo (z +ℤ pos (2 ^ 32 * spans)) ≡ modulo z
 unfolding modulo
 modulo-again (pos n) spans = omega arith
-modulo-again (negsuc n) spans = go (ltb (2 ^ 32 * spans) (suc n)) (ltb-true (2 ^ 32 * spans) (suc n)) (ltb-false (2 ^ 32 * spans) (suc n))
-  where
-    go : (t : Bool) → (t ≡ true → 2 ^ 32 * spans < suc n) → (t ≡ false → suc n ≤ 2 ^ 32 * spans)
-        → modulo (cond t (negsuc (suc n - suc (2 ^ 32 * spans))) (pos (2 ^ 32 * spans - suc n))) ≡ modulo (negsuc n)
-    go true l g = let x = l refl in omega arith
-    go false l g = let x = g refl in omega arith
+modulo-again (negsuc n) spans = by-sign (λ z. modulo z ≡ modulo (negsuc n)) (2 ^ 32 * spans) (suc n) (λ l. omega arith) (λ l. omega arith)
 
 pub reduced-again : (z : ℤ) (spans : ℕ) → reduced (z +ℤ pos (2 ^ 32 * spans)) ≡ reduced z
 unfolding reduced

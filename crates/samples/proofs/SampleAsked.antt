@@ -1,5 +1,4 @@
 -- The questions of a sample: question 5 can be left out, and a sample that nothing refuses ends within the rule.
--- Assumes nothing.
 use mathlib.Core.Path.{_≡_, refl}
 use mathlib.Core.Bool.{true, _&&_, and-eq-true-iff}
 use mathlib.Core.List.{List, [], _∷_}
@@ -12,7 +11,7 @@ use Rattle.refusals.proofs.FirstNoFound.{each-yes}
 use Rattle.algorithms.specs.Owd.{keepsRule, windowsOk}
 use Rattle.algorithms.specs.declared.owd.OwdTrendDetector.{OwdTrendDetector}
 use Rattle.samples.specs.Delay.{referenceOk, delayOf, sampleRefusal, sampleOf}
-use Rattle.samples.specs.declared.OwdReference.{OwdReference}
+use Rattle.samples.specs.declared.delay.OwdReference.{OwdReference}
 use Rattle.samples.proofs.DelayInRange.{delay-in-range}
 use Rattle.samples.proofs.SampleKeepsRule.{pushed-keeps-rule, base-keeps-rule}
 

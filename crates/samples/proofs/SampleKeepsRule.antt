@@ -1,9 +1,7 @@
 -- A sample ends within the rule: the jitter, the window and the reference after it keep theirs.
--- Assumes nothing.
 use mathlib.Core.Path.{_≡_, refl, _∙_}
-use mathlib.Core.Bool.{Bool, true, false, cond}
+use mathlib.Core.Bool.{true}
 use Prim.Native.Nat.{ℕ, _-_}
-use lib.Dec.{leb}
 use lib.IntN.{pos, _-ℤ_, _*ℤ_}
 use mir.Syntax.{w32}
 use mir.Val.{SFits}
@@ -14,12 +12,14 @@ use Rattle.algorithms.specs.declared.owd.OwdTrendDetector.{OwdTrendDetector}
 use Rattle.algorithms.proofs.JitterKeepsRule.{step-keeps-rule}
 use Rattle.algorithms.proofs.OwdRuleKept.{cleared-keeps-rule, grown-keeps-capacity, grown-keeps-rule}
 use Rattle.refusals.specs.Ranges.{clockOk}
+use Rattle.refusals.proofs.PickedByTest.{picked}
 use Rattle.refusals.specs.declared.option.OptionU64.{OptionU64}
 use Rattle.refusals.specs.declared.option.OptionU64.the-variants as option
 use Rattle.samples.specs.Transit.{transit, jitterAfter}
-use Rattle.samples.specs.Delay.{referenceOk, span, restarts, base, younger, baseOf, windowFor, pushed}
-use Rattle.samples.specs.declared.OwdReference.{OwdReference}
-use Rattle.samples.specs.declared.OwdReference.the-variants as reference
+use Rattle.samples.specs.Delay.{referenceOk, tooOld, restarts, younger, baseOf, windowFor, pushed}
+use Rattle.samples.specs.declared.delay.OwdBase.{OwdBase}
+use Rattle.samples.specs.declared.delay.OwdReference.{OwdReference}
+use Rattle.samples.specs.declared.delay.OwdReference.the-variants as reference
 use Rattle.samples.proofs.Reduction.{reduced-fits}
 
 -- D is a signed 32-bit number
@@ -33,20 +33,12 @@ jitter-keeps-rule j (option.Some recv) last timestamp now h = step-keeps-rule j 
 
 pub window-keeps-rule : (w : OwdTrendDetector) (r : OwdReference) (now : ℕ) → owds.keepsRule w ≡ true → owds.keepsRule (windowFor w r now) ≡ true
 unfolding windowFor
-window-keeps-rule w r now h = go (restarts r now)
-  where
-    go : (b : Bool) → owds.keepsRule (cond b (owds.empty (w .capacity)) w) ≡ true
-    go true = cleared-keeps-rule w h
-    go false = h
+window-keeps-rule w r now h = picked (λ v. owds.keepsRule v ≡ true) (restarts r now) (λ e. cleared-keeps-rule w h) (λ e. h)
 
 -- clearing leaves the capacity, so that the lent buffers are still as long
 pub window-keeps-capacity : (w : OwdTrendDetector) (r : OwdReference) (now : ℕ) → windowFor w r now .capacity ≡ w .capacity
 unfolding windowFor
-window-keeps-capacity w r now = go (restarts r now)
-  where
-    go : (b : Bool) → cond b (owds.empty (w .capacity)) w .capacity ≡ w .capacity
-    go true = refl
-    go false = refl
+window-keeps-capacity w r now = picked (λ (v : OwdTrendDetector). v .capacity ≡ w .capacity) (restarts r now) (λ e. refl) (λ e. refl)
 
 pub pushed-keeps-rule : (w : OwdTrendDetector) (r : OwdReference) (now : ℕ) → owds.keepsRule w ≡ true → owds.keepsRule (pushed w r now) ≡ true
 unfolding pushed
@@ -60,8 +52,4 @@ pushed-keeps-capacity w r now = grown-keeps-capacity (windowFor w r now) ∙ win
 pub base-keeps-rule : (r : OwdReference) (now timestamp : ℕ) → referenceOk r ≡ true → clockOk now ≡ true → clockOk (baseOf r now timestamp .«recv_ms») ≡ true
 unfolding younger
 base-keeps-rule reference.None now timestamp h k = k
-base-keeps-rule (reference.Some recv sent) now timestamp h k = go (leb span (now - recv))
-  where
-    go : (b : Bool) → clockOk (cond b (base now timestamp) (base recv sent) .«recv_ms») ≡ true
-    go true = k
-    go false = h
+base-keeps-rule (reference.Some recv sent) now timestamp h k = picked (λ (b : OwdBase). clockOk (b .«recv_ms») ≡ true) (tooOld recv now) (λ e. k) (λ e. h)

@@ -1,5 +1,4 @@
 -- A sender timestamp that has wrapped is no loss of order: 2^32 more or less in it moves neither D nor the delay.
--- Assumes nothing.
 use mathlib.Core.Path.{_≡_, sym, ap, _∙_}
 use Prim.Native.Nat.{ℕ, _+_, _*_, _^_}
 use native.Mathlib.Omega.{arith}

@@ -10,10 +10,10 @@ use Rattle.algorithms.specs.declared.owd.OwdTrendDetector.{OwdTrendDetector}
 use Rattle.refusals.specs.Questions.{question, firstNo}
 use Rattle.refusals.specs.Ranges.{clockOk, delayOk}
 use Rattle.samples.specs.Words.{reduced}
-use Rattle.samples.specs.declared.OwdReference.{OwdReference}
-use Rattle.samples.specs.declared.OwdReference.the-variants.{None, Some}
-use Rattle.samples.specs.declared.OwdBase.{OwdBase}
-use Rattle.samples.specs.declared.OwdSampled.{OwdSampled}
+use Rattle.samples.specs.declared.delay.OwdReference.{OwdReference}
+use Rattle.samples.specs.declared.delay.OwdReference.the-variants.{None, Some}
+use Rattle.samples.specs.declared.delay.OwdBase.{OwdBase}
+use Rattle.samples.specs.declared.delay.OwdSampled.{OwdSampled}
 
 -- document 01, State rule: "the OWD reference is absent or a valid pair", its clock in range
 abbrev pub referenceOk : OwdReference → Bool
@@ -24,18 +24,22 @@ referenceOk (Some recv timestamp) = clockOk recv
 abbrev pub span : ℕ
 span = 2 ^ 30
 
--- the reference's age is 2^30 ms or more
+-- "An age of 2^30 ms or more"
+abbrev pub tooOld : ℕ → ℕ → Bool
+tooOld recv now = leb span (now - recv)
+
+-- the reference is too old
 abbrev pub restarts : OwdReference → ℕ → Bool
 restarts None now = false
-restarts (Some recv timestamp) now = leb span (now - recv)
+restarts (Some recv timestamp) now = tooOld recv now
 
 -- a receive time and a sender timestamp to measure from
 abbrev pub base : ℕ → ℕ → OwdBase
 base recv timestamp = record { «recv_ms» = recv; «sender_timestamp» = timestamp }
 
--- "An age of 2^30 ms or more .. makes this sample the reference"
+-- it "makes this sample the reference"
 unfoldable pub younger : OwdBase → ℕ → ℕ → OwdBase
-younger b now timestamp = cond (leb span (now - b .«recv_ms»)) (base now timestamp) b
+younger b now timestamp = cond (tooOld (b .«recv_ms») now) (base now timestamp) b
 
 -- what a sample is measured from: the reference, or the sample itself
 abbrev pub baseOf : OwdReference → ℕ → ℕ → OwdBase

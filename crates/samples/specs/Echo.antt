@@ -4,7 +4,7 @@ use Prim.Native.Nat.{ℕ, _-_}
 use lib.Dec.{leb}
 use Rattle.refusals.specs.declared.option.OptionU64.{OptionU64}
 use Rattle.refusals.specs.declared.option.OptionU64.the-variants.{None, Some}
-use Rattle.samples.specs.declared.Echo.{Echo}
+use Rattle.samples.specs.declared.echo.Echo.{Echo}
 
 -- a timestamp echoed, and how long it dwelt here
 abbrev pub echo : ℕ → ℕ → Echo

@@ -1,5 +1,4 @@
 -- The effective interval by whole numbers is that of the Rust's float route, `(report_interval_ms as f64 * multiplier) as u64`: every float on the way is exact.
--- Assumes nothing.
 use mathlib.Core.Path.{_≡_}
 use mathlib.Core.Bool.{true}
 use Prim.Native.Nat.{ℕ, _^_, _≤_, min}
@@ -11,7 +10,7 @@ use lib.Ieee.{binary64, mul, ofInt, toUnsigned}
 use Rattle.floats.proofs.PowersOfTwo.{power-exact, product-cast}
 use Rattle.sender.specs.State.{keepsRule}
 use Rattle.sender.specs.Backoff.{backoff, multiplier}
-use Rattle.sender.specs.Reports.{effectiveMs}
+use Rattle.sender.specs.Pacing.{effectiveMs}
 use Rattle.sender.specs.declared.SenderState.{SenderState}
 use Rattle.sender.proofs.QuestionsAnswered.{interval-at-most}
 

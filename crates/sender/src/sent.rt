@@ -9,7 +9,7 @@ ghost use Rattle.sender.specs.State.{keepsRule};
 ghost use Rattle.sender.specs.Sent.{opened, sentRefusal, sentOf};
 use crate::SenderState;
 use crate::SenderUpdate;
-use numbers::saturating_add;
+use numbers::methods::saturating_add_u32;
 use refusals::questions::Questions;
 use refusals::ranges::counter_u64_ok;
 use refusals::ranges::frame_size_ok;
@@ -68,7 +68,7 @@ impl SenderState {
             let mut state = self.open(counter, timestamp);
             state.last_counter = counter;
             state.last_timestamp = timestamp;
-            state.interval_bytes_sent = saturating_add(state.interval_bytes_sent, bytes as u32);
+            state.interval_bytes_sent = saturating_add_u32(state.interval_bytes_sent, bytes as u32);
             state.cumulative_packets_sent = state.cumulative_packets_sent + 1;
             state.cumulative_bytes_sent = state.cumulative_bytes_sent + bytes as u64;
             SenderUpdate { refusal, state }

@@ -1,5 +1,4 @@
 -- EVERY ROW OF THE TABLE HOLDS, worked out from the definitions.
--- Assumes nothing.
 use mathlib.Core.Path.{_≡_, refl}
 use mathlib.Core.Bool.{true}
 use lib.Ieee as ieee
@@ -22,5 +21,5 @@ use Rattle.table.specs.Cells.{everyRow}
 use Rattle.table.specs.Rows.{table}
 
 pub every-row-holds : everyRow table ≡ true
-unfolding answers.answerF64 backoff.backoff echo.echoAfter estimators.estimateIn estimators.stepped etx.etxAnswer etx.etxOf floats.clamped gaps.closed gaps.finishedBursts gaps.keepsRule gaps.missed gaps.moved gaps.nextAfter gaps.observed ieee.add ieee.div ieee.eq ieee.le ieee.lt ieee.mul ieee.ofInt ieee.sub ieee.toSigned jitters.jitterUsOf jitters.refusalOf jitters.stepped numbers.estimateStep owd.keepsRule owd.newOf owd.window questions.firstNo receiver.clockRefusal receiver.keepsRule receiver.rekeyOf receiver.rekeyed stats.meanBurst stats.statsOf trend.plus trend.slope trend.trendAnswer trend.trendFrom trend.trendOf trips.roundTrip
+unfolding answers.answerF64 backoff.backoff echo.echoAfter estimators.estimateIn estimators.stepped etx.etxAnswer etx.etxOf floats.clamped gaps.burstFinished gaps.finishedBursts gaps.keepsRule gaps.gapCounted gaps.gapObserved gaps.nextAfter gaps.observed ieee.add ieee.div ieee.eq ieee.le ieee.lt ieee.mul ieee.ofInt ieee.sub ieee.toSigned jitters.jitterUsOf jitters.refusalOf jitters.stepped numbers.estimateStep owd.keepsRule owd.newOf owd.window questions.firstNo receiver.clockRefusal receiver.keepsRule receiver.rekeyOf receiver.rekeyed stats.meanBurst stats.statsOf trend.plus trend.slope trend.trendAnswer trend.trendFrom trend.trendOf trips.roundTrip
 every-row-holds = refl

@@ -1,4 +1,4 @@
--- The parts in which the code makes a report up, over zeros, are its bytes. Assumes nothing.
+-- The parts in which the code makes a report up, over zeros, are its bytes.
 use mathlib.Core.Path.{_≡_, refl}
 use lib.ListN.{replicate}
 use Rattle.codec.specs.LittleEndian.{leBytes, stored, withField}

@@ -1,4 +1,4 @@
--- A field of two payloads that are alike, and the bytes of fields that stand one after the other. Assumes nothing.
+-- A field of two payloads that are alike, and the bytes of fields that stand one after the other.
 use Prim.Native.Nat.{ℕ, _+_, _≤_}
 use mathlib.Core.Path.{_≡_, sym, ap, ap₂, _∙_}
 use mathlib.Core.List.{List, _++_, append-assoc}

@@ -1,4 +1,4 @@
--- What decoding and encoding mean together. Assumes nothing.
+-- What decoding and encoding mean together.
 mod Messages
 mod Blocks
 mod Fields

@@ -1,4 +1,4 @@
--- The two answers of writing a message and of taking a payload. Assumes nothing.
+-- The two answers of writing a message and of taking a payload.
 use Prim.Native.Nat.{ℕ, _+_, _-_, _≤_, _<_}
 use mathlib.Core.Path.{_≡_, sym, ap, _∙_}
 use mathlib.Core.List.{List, _++_}

@@ -1,4 +1,4 @@
--- Encoding and decoding a path MTU notification undo each other. Assumes nothing.
+-- Encoding and decoding a path MTU notification undo each other.
 use Prim.Native.Nat.{ℕ, _≤_, _<_, _^_}
 use mathlib.Core.Path.{_≡_, refl, ap}
 use mathlib.Core.List.{List, []}

@@ -1,4 +1,4 @@
--- Encoding and decoding a receiver's report undo each other, and the reserved and trailing bytes of a payload do not matter. Assumes nothing.
+-- Encoding and decoding a receiver's report undo each other, and the reserved and trailing bytes of a payload do not matter.
 use Prim.Native.Nat.{ℕ, _+_, _≤_, _<_, _^_}
 use mathlib.Core.Path.{_≡_, refl, sym, ap, _∙_}
 use mathlib.Core.Bool.{Bool, true, false, cond}
@@ -18,7 +18,7 @@ use lib.Dec.{leb}
 use Rattle.wire.specs.Payload.{AlikeOn, Bytes, roomAnswer}
 use Rattle.wire.specs.ReceiverReport.{encoded, encodeAnswer, encodedInto, reportIn, decodedBy, accepted, decoded, Fits}
 use Rattle.wire.specs.declared.receiver_report.ReceiverReport.{ReceiverReport}
-use Rattle.wire.specs.declared.receiver_report.Decoded.{Decoded}
+use Rattle.wire.specs.declared.receiver_report.ReceiverReportDecoded.{ReceiverReportDecoded}
 use Rattle.wire.proofs.Messages.{payload-alike, payload-length}
 use Rattle.wire.proofs.Fields.{field-alike, first-field, next-field}
 
@@ -99,7 +99,7 @@ jitter-back r out h room =
     let same = payload-alike out (encoded r) 3 k in
     let alike = decode-alike (drop 1 (encoded r)) payload (omega arith) (omega (arith, payload-length out (encoded r) k)) (λ i a b. same i a (omega arith)) (λ i a b. same i (omega arith) b) in
     let own : decoded payload ≡ accepted (reportIn (drop 1 (encoded r))) = sym alike ∙ decodes (drop 1 (encoded r)) (omega (arith, own-length r)) in
-    (ap (λ (d : Decoded). d .refusal) own, ap (λ (d : Decoded). d .report .jitter) own ∙ read-bytes 4 (r .jitter) h)
+    (ap (λ (d : ReceiverReportDecoded). d .refusal) own, ap (λ (d : ReceiverReportDecoded). d .report .jitter) own ∙ read-bytes 4 (r .jitter) h)
   where
     roomy : (b : Bool) → (b ≡ true → 68 ≤ length out) → _≡_ {A = ℕ} (cond b 0 6) 0 → 68 ≤ length out
     roomy true f e = f refl

@@ -1,4 +1,4 @@
--- Encoding and decoding a sender's report undo each other, and the reserved and trailing bytes of a payload do not matter. Assumes nothing.
+-- Encoding and decoding a sender's report undo each other, and the reserved and trailing bytes of a payload do not matter.
 use Prim.Native.Nat.{ℕ, _+_, _≤_}
 use mathlib.Core.Path.{_≡_, refl, sym, ap, _∙_}
 use mathlib.Core.List.{List, []}

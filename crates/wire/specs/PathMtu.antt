@@ -7,7 +7,7 @@ use Rattle.codec.specs.declared.reader.Length.{Length}
 use Rattle.codec.specs.declared.reader.Length.the-variants.{Enough}
 use Rattle.wire.specs.Payload.{roomAnswer, writtenInto}
 use Rattle.wire.specs.declared.path_mtu.PathMtuNotification.{PathMtuNotification}
-use Rattle.wire.specs.declared.path_mtu.Decoded.{Decoded}
+use Rattle.wire.specs.declared.path_mtu.PathMtuDecoded.{PathMtuDecoded}
 
 -- the notification of an MTU
 abbrev pub notification : ℕ → PathMtuNotification
@@ -26,7 +26,7 @@ abbrev pub encodedInto : List ℕ → PathMtuNotification → List ℕ
 encodedInto out n = writtenInto out (encoded n)
 
 -- document 01, check 7: the number and the lengths of a length answer, with the notification where the body is long enough, else one of 0
-unfoldable pub decodedBy : Length → PathMtuNotification → Decoded
+unfoldable pub decodedBy : Length → PathMtuNotification → PathMtuDecoded
 decodedBy answer n = record {
   refusal = valuesOf answer .refusal;
   needed = valuesOf answer .needed;
@@ -35,9 +35,9 @@ decodedBy answer n = record {
 }
 
 -- the notification, and nothing refused
-abbrev pub accepted : PathMtuNotification → Decoded
+abbrev pub accepted : PathMtuNotification → PathMtuDecoded
 accepted n = decodedBy Enough n
 
 -- a body of at least 2 bytes is read; anything past them is ignored
-unfoldable pub decoded : List ℕ → Decoded
+unfoldable pub decoded : List ℕ → PathMtuDecoded
 decoded s = decodedBy (lengthAnswer s 0 2) (notification (fieldAt s 0 2))

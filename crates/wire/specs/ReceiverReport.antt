@@ -11,7 +11,7 @@ use Rattle.codec.specs.declared.reader.Length.{Length}
 use Rattle.codec.specs.declared.reader.Length.the-variants.{Enough}
 use Rattle.wire.specs.Payload.{roomAnswer, writtenInto}
 use Rattle.wire.specs.declared.receiver_report.ReceiverReport.{ReceiverReport}
-use Rattle.wire.specs.declared.receiver_report.Decoded.{Decoded}
+use Rattle.wire.specs.declared.receiver_report.ReceiverReportDecoded.{ReceiverReportDecoded}
 
 -- the bytes: the type, three zeros, the fields in order with two zeros before the jitter
 unfoldable pub encoded : ReceiverReport → List ℕ
@@ -80,7 +80,7 @@ noReport = record {
 }
 
 -- document 01, check 7: the number and the lengths of a length answer, with the report where the payload is long enough, else none
-unfoldable pub decodedBy : Length → ReceiverReport → Decoded
+unfoldable pub decodedBy : Length → ReceiverReport → ReceiverReportDecoded
 decodedBy answer r = record {
   refusal = valuesOf answer .refusal;
   needed = valuesOf answer .needed;
@@ -89,11 +89,11 @@ decodedBy answer r = record {
 }
 
 -- the report, and nothing refused
-abbrev pub accepted : ReceiverReport → Decoded
+abbrev pub accepted : ReceiverReport → ReceiverReportDecoded
 accepted r = decodedBy Enough r
 
 -- a payload of at least 67 bytes is read; anything past them is ignored
-unfoldable pub decoded : List ℕ → Decoded
+unfoldable pub decoded : List ℕ → ReceiverReportDecoded
 decoded s = decodedBy (lengthAnswer s 0 67) (reportIn s)
 
 -- what every ReceiverReport of the code keeps: each field fits its type

@@ -7,7 +7,7 @@ use Rattle.codec.specs.declared.reader.Length.{Length}
 use Rattle.codec.specs.declared.reader.Length.the-variants.{Enough}
 use Rattle.wire.specs.Payload.{roomAnswer, writtenInto}
 use Rattle.wire.specs.declared.sender_report.SenderReport.{SenderReport}
-use Rattle.wire.specs.declared.sender_report.Decoded.{Decoded}
+use Rattle.wire.specs.declared.sender_report.SenderReportDecoded.{SenderReportDecoded}
 
 -- the bytes: the type, three zeros, the fields in order
 unfoldable pub encoded : SenderReport → List ℕ
@@ -54,7 +54,7 @@ noReport = record {
 }
 
 -- document 01, check 7: the number and the lengths of a length answer, with the report where the payload is long enough, else none
-unfoldable pub decodedBy : Length → SenderReport → Decoded
+unfoldable pub decodedBy : Length → SenderReport → SenderReportDecoded
 decodedBy answer r = record {
   refusal = valuesOf answer .refusal;
   needed = valuesOf answer .needed;
@@ -63,11 +63,11 @@ decodedBy answer r = record {
 }
 
 -- the report, and nothing refused
-abbrev pub accepted : SenderReport → Decoded
+abbrev pub accepted : SenderReport → SenderReportDecoded
 accepted r = decodedBy Enough r
 
 -- a payload of at least 47 bytes is read; anything past them is ignored
-unfoldable pub decoded : List ℕ → Decoded
+unfoldable pub decoded : List ℕ → SenderReportDecoded
 decoded s = decodedBy (lengthAnswer s 0 47) (reportIn s)
 
 -- what every SenderReport of the code keeps: each field fits its type

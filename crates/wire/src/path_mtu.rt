@@ -12,7 +12,7 @@ pub struct PathMtuNotification {
 }
 
 // The notification, or number 7 with the needed and given lengths and a notification of 0.
-pub struct Decoded {
+pub struct PathMtuDecoded {
     pub refusal: u8,
     pub needed: usize,
     pub given: usize,
@@ -37,18 +37,18 @@ impl PathMtuNotification {
         0
     }
 
-    pub fn decode(body: &[u8]) -> Decoded
+    pub fn decode(body: &[u8]) -> PathMtuDecoded
         ensures { λ r. ⌜ r ≡ decoded (now (body .entry)) ⌝ }
     {
         let Length::Enough = require(body, Place { pos: 0 }, 2) else {
-            return Decoded {
+            return PathMtuDecoded {
                 refusal: 7,
                 needed: 2,
                 given: body.len(),
                 notification: PathMtuNotification { path_mtu: 0 },
             };
         };
-        Decoded {
+        PathMtuDecoded {
             refusal: 0,
             needed: 0,
             given: 0,

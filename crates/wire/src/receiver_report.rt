@@ -33,7 +33,7 @@ pub struct ReceiverReport {
 }
 
 // The report, or number 7 with the needed and given lengths and a report of zeros.
-pub struct Decoded {
+pub struct ReceiverReportDecoded {
     pub refusal: u8,
     pub needed: usize,
     pub given: usize,
@@ -54,18 +54,18 @@ impl ReceiverReport {
     }
 
     // The payload starts at the reserved bytes, after the type byte.
-    pub fn decode(payload: &[u8]) -> Decoded
+    pub fn decode(payload: &[u8]) -> ReceiverReportDecoded
         ensures { λ r. ⌜ r ≡ decoded (now (payload .entry)) ⌝ }
     {
         let Length::Enough = require(payload, Place { pos: 0 }, 67) else {
-            return Decoded {
+            return ReceiverReportDecoded {
                 refusal: 7,
                 needed: 67,
                 given: payload.len(),
                 report: no_report(),
             };
         };
-        Decoded {
+        ReceiverReportDecoded {
             refusal: 0,
             needed: 0,
             given: 0,

@@ -23,7 +23,7 @@ pub struct SenderReport {
 }
 
 // The report, or number 7 with the needed and given lengths and a report of zeros.
-pub struct Decoded {
+pub struct SenderReportDecoded {
     pub refusal: u8,
     pub needed: usize,
     pub given: usize,
@@ -44,18 +44,18 @@ impl SenderReport {
     }
 
     // The payload starts at the reserved bytes, after the type byte.
-    pub fn decode(payload: &[u8]) -> Decoded
+    pub fn decode(payload: &[u8]) -> SenderReportDecoded
         ensures { λ r. ⌜ r ≡ decoded (now (payload .entry)) ⌝ }
     {
         let Length::Enough = require(payload, Place { pos: 0 }, 47) else {
-            return Decoded {
+            return SenderReportDecoded {
                 refusal: 7,
                 needed: 47,
                 given: payload.len(),
                 report: no_report(),
             };
         };
-        Decoded {
+        SenderReportDecoded {
             refusal: 0,
             needed: 0,
             given: 0,

@@ -1,5 +1,4 @@
 -- `demo::live` is safe and ends: the windows keep their length, and the minutes that are left fall.
--- Assumes nothing.
 use borrow.Author.Needs.{needs}
 use mathlib.Core.Path.{_≡_}
 use lib.ListN.{length}

@@ -1,4 +1,4 @@
--- `exports::mmp_compute_etx` meets its contract. Assumes nothing.
+-- `exports::mmp_compute_etx` meets its contract.
 use borrow.Author.Needs.{needs}
 use mathlib.Core.Path.{refl, sym, ap, _∙_}
 use borrow.Author.Tests.{eq-eqb, ne-eqb}

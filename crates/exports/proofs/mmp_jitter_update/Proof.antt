@@ -1,4 +1,4 @@
--- `exports::mmp_jitter_update` meets its contract. Assumes nothing.
+-- `exports::mmp_jitter_update` meets its contract.
 use borrow.Author.Needs.{needs}
 use mathlib.Core.Path.{refl, sym, ap, ap₂, _∙_}
 use borrow.Author.Tests.{eq-eqb, ne-eqb}

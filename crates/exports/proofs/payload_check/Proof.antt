@@ -1,4 +1,4 @@
--- `exports::payload_check` meets its contract. Assumes nothing.
+-- `exports::payload_check` meets its contract.
 use native.Mathlib.Omega.{arith}
 use mathlib.Core.Path.{sym}
 use Rattle.codec.specs.Reading.{neededFor, valuesOf, byLength}

@@ -1,4 +1,4 @@
--- `figures::delivery_ratio_unchecked` meets its contract. Assumes nothing.
+-- `figures::delivery_ratio_unchecked` meets its contract.
 use lib.Ieee.{ofBits}
 use Rattle.figures.specs.Delivery.{deliveryRatio}
 use Rattle.figures.proofs.delivery_ratio_unchecked.Statement.{statement}

@@ -1,4 +1,4 @@
--- `figures::goodput_ok` meets its contract. Assumes nothing.
+-- `figures::goodput_ok` meets its contract.
 use lib.Ieee.{ofBits}
 use Rattle.figures.proofs.goodput_ok.Statement.{statement}
 use Rattle.figures.proofs.goodput_ok.Tie as tie

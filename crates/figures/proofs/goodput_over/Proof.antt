@@ -1,4 +1,4 @@
--- `figures::goodput_over` meets its contract. Assumes nothing.
+-- `figures::goodput_over` meets its contract.
 use lib.Ieee.{ofBits}
 use mathlib.Core.Path.{refl}
 use Rattle.refusals.proofs.PickedByTest.{yes, no}

@@ -1,4 +1,4 @@
--- `figures::is_stale` meets its contract: the first counter that fell decides, and where none did the five equations. Assumes nothing.
+-- `figures::is_stale` meets its contract: the first counter that fell decides, and where none did the five equations.
 use borrow.Author.Tests.{lt-ltb, le-ltb}
 use Rattle.figures.specs.Stale.{fell, same, stale}
 use Rattle.figures.proofs.is_stale.Statement.{statement}

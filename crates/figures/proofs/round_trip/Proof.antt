@@ -1,4 +1,4 @@
--- `figures::round_trip` meets its contract. Assumes nothing.
+-- `figures::round_trip` meets its contract.
 use borrow.Author.Needs.{needs}
 use borrow.Author.Tests.{eq-eqb, ne-eqb, lt-ltb, le-ltb}
 use mathlib.Core.Path.{refl}

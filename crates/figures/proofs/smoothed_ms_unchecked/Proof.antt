@@ -1,4 +1,4 @@
--- `figures::smoothed_ms_unchecked` meets its contract. Assumes nothing.
+-- `figures::smoothed_ms_unchecked` meets its contract.
 use lib.Ieee.{ofBits}
 use mir.Syntax.{w64}
 use mir.Facts.{toZ-ofZ}

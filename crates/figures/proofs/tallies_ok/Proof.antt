@@ -1,4 +1,4 @@
--- `figures::tallies_ok` meets its contract. Assumes nothing.
+-- `figures::tallies_ok` meets its contract.
 use mathlib.Core.Path.{_≡_, refl, sym}
 use mathlib.Core.Bool.{Bool, true, false}
 use Prim.Native.Nat.{ℕ, _+_, _-_, _≤_}

@@ -1,4 +1,4 @@
--- `figures::toward_rate` meets its contract. Assumes nothing.
+-- `figures::toward_rate` meets its contract.
 use lib.Ieee.{ofBits}
 use mathlib.Core.Path.{refl}
 use Rattle.refusals.proofs.PickedByTest.{yes, no}

@@ -1,4 +1,4 @@
--- `floats::clamp` meets its contract: each return is what `clamped` picks where the tests went as they did. Assumes nothing.
+-- `floats::clamp` meets its contract: each return is what `clamped` picks where the tests went as they did.
 use mathlib.Core.Path.{refl}
 use Rattle.floats.specs.Operations.{clamped}
 use Rattle.floats.proofs.clamp.Statement.{statement}

@@ -1,4 +1,4 @@
--- `floats::least` meets its contract. Assumes nothing.
+-- `floats::least` meets its contract.
 use mathlib.Core.Path.{refl}
 use Rattle.floats.specs.Operations.{lesser}
 use Rattle.floats.proofs.least.Statement.{statement}

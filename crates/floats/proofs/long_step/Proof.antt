@@ -1,4 +1,4 @@
--- `floats::long_step` meets its contract: the weight's bits are its value. Assumes nothing.
+-- `floats::long_step` meets its contract: the weight's bits are its value.
 use mathlib.Core.Path.{refl}
 use lib.Ieee.{ofBits}
 use Rattle.floats.specs.Operations.{step}

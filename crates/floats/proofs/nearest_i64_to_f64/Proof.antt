@@ -1,4 +1,4 @@
--- `floats::nearest_i64_to_f64` meets its contract: f64 holds every whole number from 0 to 2 ^ 53. Assumes nothing.
+-- `floats::nearest_i64_to_f64` meets its contract: f64 holds every whole number from 0 to 2 ^ 53.
 use mathlib.Core.Path.{_≡_, sym, subst}
 use mathlib.Core.Bool.{true, _&&_, and-eq-true-iff, true≢false}
 use borrow.Author.Needs.{needs}

@@ -1,4 +1,4 @@
--- `floats::nearest_u64_to_f64` meets its contract: f64 holds every whole number up to 2 ^ 53. Assumes nothing.
+-- `floats::nearest_u64_to_f64` meets its contract: f64 holds every whole number up to 2 ^ 53.
 use borrow.Author.Needs.{needs}
 use Prim.Native.Nat.{ℕ, _≤_}
 use lib.IntN.{pos}

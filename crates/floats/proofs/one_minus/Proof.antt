@@ -1,4 +1,4 @@
--- `floats::one_minus` meets its contract: the bits of 1.0 are its value. Assumes nothing.
+-- `floats::one_minus` meets its contract: the bits of 1.0 are its value.
 use mathlib.Core.Path.{refl}
 use lib.Ieee.{ofBits}
 use Rattle.floats.specs.Operations.{complement}

@@ -1,4 +1,4 @@
--- `floats::quotient` meets its contract: each conversion rounds once, and the division once more. Assumes nothing.
+-- `floats::quotient` meets its contract: each conversion rounds once, and the division once more.
 use borrow.Author.Needs.{needs}
 use Rattle.floats.specs.Operations.{rounded-quotient}
 use Rattle.floats.proofs.quotient.Statement.{statement}

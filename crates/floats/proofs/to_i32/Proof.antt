@@ -1,4 +1,4 @@
--- `floats::to_i32` meets its contract: beyond an end it returns that end, between the ends the call cuts, and what passes no test is a NaN. Assumes nothing.
+-- `floats::to_i32` meets its contract: beyond an end it returns that end, between the ends the call cuts, and what passes no test is a NaN.
 use mathlib.Core.Path.{_≡_, sym, ap, _∙_, subst}
 use mathlib.Core.Bool.{Bool, true, false, not}
 use Prim.Native.Nat.{_^_, _<_}

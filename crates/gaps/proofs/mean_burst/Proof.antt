@@ -1,4 +1,4 @@
--- `gaps::mean_burst` meets its contract. Assumes nothing.
+-- `gaps::mean_burst` meets its contract.
 use mathlib.Core.Path.{_≡_, refl}
 use Prim.Native.Nat.{ℕ, _*_, _/_, _≤_, _<_, min}
 use native.Mathlib.Nat.{le-div-iff-mul-le, div-lt-iff-lt-mul}

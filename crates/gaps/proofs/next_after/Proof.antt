@@ -1,4 +1,4 @@
--- `gaps::next_after` meets its contract. Assumes nothing.
+-- `gaps::next_after` meets its contract.
 use mathlib.Core.Path.{refl}
 use borrow.Author.Tests.{le-leb, lt-leb}
 use Rattle.refusals.proofs.PickedByTest.{yes, no}

@@ -1,4 +1,4 @@
--- `receiver::grace_ok` meets its contract. Assumes nothing.
+-- `receiver::grace_ok` meets its contract.
 use borrow.Author.Needs.{needs}
 use Rattle.receiver.proofs.grace_ok.Statement.{statement}
 use Rattle.receiver.proofs.grace_ok.Tie as tie

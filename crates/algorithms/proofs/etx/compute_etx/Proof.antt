@@ -1,4 +1,4 @@
--- `algorithms::etx::compute_etx` meets its contract. Assumes nothing.
+-- `algorithms::etx::compute_etx` meets its contract.
 use Rattle.refusals.specs.Questions.{firstNo, asked}
 use Rattle.algorithms.specs.Etx.{etxAnswer}
 use Rattle.algorithms.proofs.etx.compute_etx.Statement.{statement}

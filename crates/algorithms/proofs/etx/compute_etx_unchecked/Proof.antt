@@ -1,4 +1,4 @@
--- `algorithms::etx::compute_etx_unchecked` meets its contract. Assumes nothing.
+-- `algorithms::etx::compute_etx_unchecked` meets its contract.
 use mathlib.Core.Path.{refl}
 use lib.Ieee.{ofBits}
 use Rattle.refusals.proofs.PickedByTest.{yes, no}

@@ -1,4 +1,4 @@
--- `algorithms::etx::quality_index` meets its contract. Assumes nothing.
+-- `algorithms::etx::quality_index` meets its contract.
 use Rattle.refusals.specs.Questions.{firstNo, asked}
 use Rattle.algorithms.specs.Etx.{qualityAnswer}
 use Rattle.algorithms.proofs.etx.quality_index.Statement.{statement}

@@ -1,4 +1,4 @@
--- `algorithms::etx::quality_index_unchecked` meets its contract: the bits of 1.0 and 100.0 are their values. Assumes nothing.
+-- `algorithms::etx::quality_index_unchecked` meets its contract: the bits of 1.0 and 100.0 are their values.
 use mathlib.Core.Path.{refl}
 use lib.Ieee.{ofBits}
 use Rattle.algorithms.specs.Etx.{qualityOf}

@@ -1,4 +1,4 @@
--- `algorithms::owd::onward` meets its contract. Assumes nothing.
+-- `algorithms::owd::onward` meets its contract.
 use mathlib.Core.Path.{_≡_, refl}
 use Prim.Native.Nat.{_-_}
 use native.Mathlib.Omega.{arith}

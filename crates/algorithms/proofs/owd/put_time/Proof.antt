@@ -1,4 +1,4 @@
--- `algorithms::owd::put_time` meets its contract. Assumes nothing.
+-- `algorithms::owd::put_time` meets its contract.
 use mathlib.Core.Path.{sym}
 use borrow.Author.Needs.{needs}
 use lib.Seq.{set-out}

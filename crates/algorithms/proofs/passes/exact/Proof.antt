@@ -1,4 +1,4 @@
--- `algorithms::passes::exact` meets its contract: a delay in range is below 2 ^ 53, up to which f64 holds every integer. Assumes nothing.
+-- `algorithms::passes::exact` meets its contract: a delay in range is below 2 ^ 53, up to which f64 holds every integer.
 use mathlib.Core.Path.{_≡_, sym, subst}
 use native.Mathlib.Omega.{arith}
 use mathlib.Core.Bool.{true, and-eq-true-iff}

@@ -1,4 +1,4 @@
--- `algorithms::passes::moments_over` meets its contract: the moments so far, moved on by the slots that are left, are those over all. Assumes nothing.
+-- `algorithms::passes::moments_over` meets its contract: the moments so far, moved on by the slots that are left, are those over all.
 use mathlib.Core.Path.{_≡_, refl, sym, ap, _∙_}
 use Prim.Native.Nat.{_+_, _-_, _≤_}
 use native.Mathlib.Omega.{arith}

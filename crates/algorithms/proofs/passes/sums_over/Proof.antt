@@ -1,4 +1,4 @@
--- `algorithms::passes::sums_over` meets its contract: the sums so far, moved on by the slots that are left, are those over all. Assumes nothing.
+-- `algorithms::passes::sums_over` meets its contract: the sums so far, moved on by the slots that are left, are those over all.
 use mathlib.Core.Path.{_≡_, refl, sym, ap, _∙_}
 use Prim.Native.Nat.{_+_, _-_, _≤_}
 use native.Mathlib.Omega.{arith}

@@ -1,4 +1,4 @@
--- `codec::fields::i32_at` meets its contract. Assumes nothing.
+-- `codec::fields::i32_at` meets its contract.
 use borrow.Author.Needs.{needs}
 use mathlib.Core.Path.{_∙_, ap}
 use mir.Syntax.{w32}

@@ -1,4 +1,4 @@
--- `codec::fields::put_i32` meets its contract. Assumes nothing.
+-- `codec::fields::put_i32` meets its contract.
 use borrow.Author.Needs.{needs}
 use mathlib.Core.Path.{_∙_, ap}
 use mir.Syntax.{w32}

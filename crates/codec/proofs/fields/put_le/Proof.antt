@@ -1,4 +1,4 @@
--- `codec::fields::put_le` meets its contract. Assumes nothing.
+-- `codec::fields::put_le` meets its contract.
 use mathlib.Core.Path.{_≡_, refl, sym, _∙_}
 use Prim.Native.Nat.{_≤_, _+_, _%_}
 use borrow.Author.Needs.{needs}

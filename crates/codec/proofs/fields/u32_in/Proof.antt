@@ -1,4 +1,4 @@
--- `codec::fields::u32_in` meets its contract. Assumes nothing.
+-- `codec::fields::u32_in` meets its contract.
 use borrow.Author.Needs.{needs}
 use native.Mathlib.Omega.{arith}
 use Rattle.codec.proofs.Widths.{le-join}

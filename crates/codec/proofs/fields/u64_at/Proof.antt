@@ -1,4 +1,4 @@
--- `codec::fields::u64_at` meets its contract. Assumes nothing.
+-- `codec::fields::u64_at` meets its contract.
 use borrow.Author.Needs.{needs}
 use native.Mathlib.Omega.{arith}
 use mathlib.Core.Path.{_∙_}

@@ -1,4 +1,4 @@
--- `codec::fields::u8_at` meets its contract. Assumes nothing.
+-- `codec::fields::u8_at` meets its contract.
 use borrow.Author.Needs.{needs}
 use native.Mathlib.Omega.{arith}
 use Rattle.codec.specs.LittleEndian.{leAt}

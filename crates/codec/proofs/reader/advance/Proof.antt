@@ -1,4 +1,4 @@
--- `codec::reader::advance` meets its contract. Assumes nothing.
+-- `codec::reader::advance` meets its contract.
 use borrow.Author.Needs.{needs}
 use native.Mathlib.Omega.{arith}
 use mathlib.Core.Path.{sym, _∙_}

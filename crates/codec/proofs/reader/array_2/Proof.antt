@@ -1,4 +1,4 @@
--- `codec::reader::array_2` meets its contract. Assumes nothing.
+-- `codec::reader::array_2` meets its contract.
 use borrow.Author.Needs.{needs}
 use mathlib.Core.Path.{_∙_}
 use Rattle.codec.proofs.Stores.{fresh}

@@ -1,4 +1,4 @@
--- `codec::reader::needed_for` meets its contract. Assumes nothing.
+-- `codec::reader::needed_for` meets its contract.
 use borrow.Author.Needs.{needs}
 use native.Mathlib.Omega.{arith}
 use Rattle.codec.specs.Reading.{neededFor}

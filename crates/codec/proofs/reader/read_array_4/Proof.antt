@@ -1,4 +1,4 @@
--- `codec::reader::read_array_4` meets its contract. Assumes nothing.
+-- `codec::reader::read_array_4` meets its contract.
 use borrow.Author.Needs.{needs}
 use native.Mathlib.Omega.{arith}
 use mathlib.Core.Path.{ap, _∙_}

@@ -1,4 +1,4 @@
--- `codec::reader::read_bytes` meets its contract. Assumes nothing.
+-- `codec::reader::read_bytes` meets its contract.
 use borrow.Author.Needs.{needs}
 use native.Mathlib.Omega.{arith}
 use mathlib.Core.Path.{sym, _∙_}

@@ -1,4 +1,4 @@
--- `codec::reader::read_u8` meets its contract. Assumes nothing.
+-- `codec::reader::read_u8` meets its contract.
 use borrow.Author.Needs.{needs}
 use Rattle.codec.specs.Reading.{advanced, readU8}
 use Rattle.codec.proofs.reader.read_u8.Statement.{statement}

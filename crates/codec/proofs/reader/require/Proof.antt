@@ -1,4 +1,4 @@
--- `codec::reader::require` meets its contract. Assumes nothing.
+-- `codec::reader::require` meets its contract.
 use borrow.Author.Needs.{needs}
 use native.Mathlib.Omega.{arith}
 use mathlib.Core.Path.{ap, _∙_}

@@ -1,4 +1,4 @@
--- `codec::writer::answer` meets its contract. Assumes nothing.
+-- `codec::writer::answer` meets its contract.
 use borrow.Author.Needs.{needs}
 use native.Mathlib.Omega.{arith}
 use borrow.Author.Tests.{le-leb, lt-leb}

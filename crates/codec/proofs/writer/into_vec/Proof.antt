@@ -1,4 +1,4 @@
--- `codec::writer::into_vec` meets its contract. Assumes nothing.
+-- `codec::writer::into_vec` meets its contract.
 use borrow.Author.Needs.{needs}
 use native.Mathlib.Omega.{arith}
 use lib.Seq.{length-take-le, take-all}

@@ -1,4 +1,4 @@
--- `codec::writer::paste` meets its contract. Assumes nothing.
+-- `codec::writer::paste` meets its contract.
 use mathlib.Core.Path.{_≡_, refl, sym, ap, _∙_}
 use Prim.Native.Nat.{ℕ, _≤_, _+_, _-_}
 use borrow.Author.Needs.{needs}

@@ -1,4 +1,4 @@
--- `codec::writer::with_capacity` meets its contract. Assumes nothing.
+-- `codec::writer::with_capacity` meets its contract.
 use borrow.Author.Tests.{le-leb, lt-leb}
 use Rattle.codec.specs.Writing.{roomFor}
 use Rattle.codec.proofs.writer.with_capacity.Statement.{statement}

@@ -1,6 +1,5 @@
 -- `mmp_sender_build_report` meets its contract: a walk of its MIR, by hand. The record is copied out of its borrow and passed by value. Where the call answered, the record, the
 -- flag and the report are stored, each behind its borrow; where it refused, the borrows stay as they were.
--- Assumes nothing.
 use mathlib.Core.Path.{_≡_, refl, sym, ap, _∙_}
 use mathlib.Core.Bool.{Bool, true, false}
 use mathlib.Core.List.{[], _∷_, List}

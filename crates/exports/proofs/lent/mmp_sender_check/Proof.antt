@@ -1,5 +1,4 @@
 -- `mmp_sender_check` meets its contract: a walk of its MIR, by hand. The borrow is looked into for the record, shut again, and the record is passed by value.
--- Assumes nothing.
 use mathlib.Core.Path.{_≡_, refl, ap}
 use mathlib.Core.List.{[], _∷_, List}
 use Prim.Native.Nat.{ℕ, _<_, _^_}

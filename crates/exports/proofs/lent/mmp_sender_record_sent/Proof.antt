@@ -1,6 +1,5 @@
 -- `mmp_sender_record_sent` meets its contract: a walk of its MIR, by hand. The borrow is opened, the record is copied out and passed by value, and the borrow is closed at
 -- the answer's record, or, where the call refused, at the record that was lent.
--- Assumes nothing.
 use mathlib.Core.Path.{_≡_, refl, sym, ap, _∙_}
 use mathlib.Core.List.{[], _∷_, List}
 use Prim.Native.Nat.{ℕ, _<_, _^_}

@@ -1,4 +1,4 @@
--- `rule_status` meets its contract: the one gate with the first question. Assumes nothing.
+-- `rule_status` meets its contract: the one gate with the first question.
 use Rattle.refusals.specs.Questions.{firstNo, asked}
 use Rattle.sender.specs.State.{refusalOf}
 use Rattle.exports.proofs.lent.rule_status.Statement.{statement}

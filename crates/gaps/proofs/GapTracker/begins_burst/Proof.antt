@@ -1,4 +1,4 @@
--- `gaps::GapTracker::begins_burst` meets its contract. Assumes nothing.
+-- `gaps::GapTracker::begins_burst` meets its contract.
 use Rattle.gaps.proofs.GapTracker.begins_burst.Statement.{statement}
 use Rattle.gaps.proofs.GapTracker.begins_burst.Tie as tie
 

@@ -1,4 +1,4 @@
--- `gaps::GapTracker::bursts_ok` meets its contract. Assumes nothing.
+-- `gaps::GapTracker::bursts_ok` meets its contract.
 use Rattle.gaps.proofs.GapTracker.bursts_ok.Statement.{statement}
 use Rattle.gaps.proofs.GapTracker.bursts_ok.Tie as tie
 

@@ -1,4 +1,4 @@
--- `gaps::GapTracker::finish_burst` meets its contract. Assumes nothing.
+-- `gaps::GapTracker::finish_burst` meets its contract.
 use mathlib.Core.Path.{sym, _∙_}
 use borrow.Author.Tests.{eq-eqb, ne-eqb}
 use Rattle.gaps.specs.Checked.{finishOf}

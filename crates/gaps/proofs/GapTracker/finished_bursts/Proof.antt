@@ -1,4 +1,4 @@
--- `gaps::GapTracker::finished_bursts` meets its contract. Assumes nothing.
+-- `gaps::GapTracker::finished_bursts` meets its contract.
 use mathlib.Core.Path.{refl}
 use borrow.Author.Needs.{needs}
 use Rattle.refusals.proofs.PickedByTest.{yes, no}
@@ -8,7 +8,7 @@ use Rattle.gaps.proofs.GapTracker.finished_bursts.Tie as tie
 
 inside : tie.Need-returns
 unfolding finishedBursts
-inside c = yes _ (c .before .before .if1 .taken) (c .saturating-sub .ensures)
+inside c = yes _ (c .before .before .if1 .taken) (c .saturating-sub-u64 .ensures)
 
 outside : tie.Need-returns-2
 unfolding finishedBursts

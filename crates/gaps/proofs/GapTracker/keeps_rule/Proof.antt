@@ -1,4 +1,4 @@
--- `gaps::GapTracker::keeps_rule` meets its contract. Assumes nothing.
+-- `gaps::GapTracker::keeps_rule` meets its contract.
 use borrow.Author.Needs.{needs}
 use Rattle.gaps.specs.Gaps.{keepsRule}
 use Rattle.gaps.proofs.GapTracker.keeps_rule.Statement.{statement}

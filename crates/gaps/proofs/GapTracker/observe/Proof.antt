@@ -1,4 +1,4 @@
--- `gaps::GapTracker::observe` meets its contract. Assumes nothing.
+-- `gaps::GapTracker::observe` meets its contract.
 use mathlib.Core.Path.{_≡_, sym, _∙_}
 use borrow.Author.Tests.{eq-eqb, ne-eqb}
 use Rattle.refusals.specs.Questions.{firstNo, asked}

@@ -1,4 +1,4 @@
--- `gaps::GapTracker::observe_unchecked` meets its contract. Assumes nothing.
+-- `gaps::GapTracker::observe_unchecked` meets its contract.
 use mathlib.Core.Path.{sym, ap}
 use borrow.Author.Needs.{needs}
 use Rattle.gaps.specs.Gaps.{observedAfter, observed}
@@ -13,7 +13,7 @@ later : tie.Need-returns-2
 unfolding observed
 later c =
     let a = c .before .before .before .before .before .before .before .args in
-    rw (c .expecting2 .ensures, c .before .moved .ensures, c .before .before .next-after .ensures, c .before .before .before .saturating-sub .ensures)
+    rw (c .expecting2 .ensures, c .before .observe-gap .ensures, c .before .before .next-after .ensures, c .before .before .before .saturating-sub-u64 .ensures)
     (sym (ap (λ o. observedAfter o (a .self) (a .counter)) (c .before .before .before .before .before .expected-next .given .1)))
 
 pub observe-unchecked-spec : {M : Type 1} → statement M

@@ -1,4 +1,4 @@
--- `gaps::GapTracker::refusal` meets its contract. Assumes nothing.
+-- `gaps::GapTracker::refusal` meets its contract.
 use Rattle.refusals.specs.Questions.{firstNo, asked}
 use Rattle.gaps.specs.Checked.{refusalOf}
 use Rattle.gaps.proofs.GapTracker.refusal.Statement.{statement}

@@ -1,4 +1,4 @@
--- `gaps::GapTracker::take_interval_stats` meets its contract. Assumes nothing.
+-- `gaps::GapTracker::take_interval_stats` meets its contract.
 use mathlib.Core.Path.{sym, _∙_}
 use borrow.Author.Tests.{eq-eqb, ne-eqb}
 use Rattle.gaps.specs.Checked.{takeOf}

@@ -1,4 +1,4 @@
--- `gaps::GapTracker::take_interval_stats_unchecked` meets its contract. Assumes nothing.
+-- `gaps::GapTracker::take_interval_stats_unchecked` meets its contract.
 use Rattle.gaps.specs.Stats.{statsOf}
 use Rattle.gaps.proofs.GapTracker.take_interval_stats_unchecked.Statement.{statement}
 use Rattle.gaps.proofs.GapTracker.take_interval_stats_unchecked.Tie as tie

@@ -1,4 +1,4 @@
--- `metrics::MmpMetrics::counters_kept` meets its contract. Assumes nothing.
+-- `metrics::MmpMetrics::counters_kept` meets its contract.
 use mathlib.Core.Path.{refl}
 use Rattle.refusals.proofs.PickedByTest.{yes, no}
 use Rattle.metrics.specs.Accessors.{countersKept}

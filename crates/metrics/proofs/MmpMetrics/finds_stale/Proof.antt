@@ -1,4 +1,4 @@
--- `metrics::MmpMetrics::finds_stale` meets its contract. Assumes nothing.
+-- `metrics::MmpMetrics::finds_stale` meets its contract.
 use Rattle.figures.specs.Stale.{stale}
 use Rattle.metrics.specs.State.{savedIn}
 use Rattle.metrics.proofs.MmpMetrics.finds_stale.Statement.{statement}

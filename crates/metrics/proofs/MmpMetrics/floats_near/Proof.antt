@@ -1,4 +1,4 @@
--- `metrics::MmpMetrics::floats_near` meets its contract. Assumes nothing.
+-- `metrics::MmpMetrics::floats_near` meets its contract.
 use mathlib.Core.Bool.{false≢true}
 use lib.Ieee.{ofBits}
 use Rattle.metrics.proofs.WellWithin.{floats-near}

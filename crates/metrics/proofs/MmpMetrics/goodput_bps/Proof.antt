@@ -1,4 +1,4 @@
--- `metrics::MmpMetrics::goodput_bps` meets its contract. Assumes nothing.
+-- `metrics::MmpMetrics::goodput_bps` meets its contract.
 use Rattle.metrics.specs.Accessors.{goodputBpsOf}
 use Rattle.metrics.proofs.MmpMetrics.goodput_bps.Statement.{statement}
 use Rattle.metrics.proofs.MmpMetrics.goodput_bps.Tie as tie

@@ -1,4 +1,4 @@
--- `metrics::MmpMetrics::keeps_rule` meets its contract. Assumes nothing.
+-- `metrics::MmpMetrics::keeps_rule` meets its contract.
 use Rattle.metrics.specs.State.{keepsRule}
 use Rattle.metrics.proofs.MmpMetrics.keeps_rule.Statement.{statement}
 use Rattle.metrics.proofs.MmpMetrics.keeps_rule.Tie as tie

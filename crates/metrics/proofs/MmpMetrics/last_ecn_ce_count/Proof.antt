@@ -1,4 +1,4 @@
--- `metrics::MmpMetrics::last_ecn_ce_count` meets its contract. Assumes nothing.
+-- `metrics::MmpMetrics::last_ecn_ce_count` meets its contract.
 use Rattle.metrics.specs.Accessors.{lastEcnCeCountOf}
 use Rattle.metrics.proofs.MmpMetrics.last_ecn_ce_count.Statement.{statement}
 use Rattle.metrics.proofs.MmpMetrics.last_ecn_ce_count.Tie as tie

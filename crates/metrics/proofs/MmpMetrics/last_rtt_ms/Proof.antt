@@ -1,4 +1,4 @@
--- `metrics::MmpMetrics::last_rtt_ms` meets its contract. Assumes nothing.
+-- `metrics::MmpMetrics::last_rtt_ms` meets its contract.
 use Rattle.metrics.specs.Accessors.{lastRttMsOf}
 use Rattle.metrics.proofs.MmpMetrics.last_rtt_ms.Statement.{statement}
 use Rattle.metrics.proofs.MmpMetrics.last_rtt_ms.Tie as tie

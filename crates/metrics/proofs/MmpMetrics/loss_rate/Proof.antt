@@ -1,4 +1,4 @@
--- `metrics::MmpMetrics::loss_rate` meets its contract. Assumes nothing.
+-- `metrics::MmpMetrics::loss_rate` meets its contract.
 use Rattle.metrics.specs.Accessors.{lossRateOf}
 use Rattle.metrics.proofs.MmpMetrics.loss_rate.Statement.{statement}
 use Rattle.metrics.proofs.MmpMetrics.loss_rate.Tie as tie

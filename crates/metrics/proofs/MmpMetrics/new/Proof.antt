@@ -1,4 +1,4 @@
--- `metrics::MmpMetrics::new` meets its contract. Assumes nothing.
+-- `metrics::MmpMetrics::new` meets its contract.
 use lib.Ieee.{ofBits}
 use Rattle.metrics.proofs.MmpMetrics.new.Statement.{statement}
 use Rattle.metrics.proofs.MmpMetrics.new.Tie as tie

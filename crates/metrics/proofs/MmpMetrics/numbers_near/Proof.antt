@@ -1,4 +1,4 @@
--- `metrics::MmpMetrics::numbers_near` meets its contract. Assumes nothing.
+-- `metrics::MmpMetrics::numbers_near` meets its contract.
 use mathlib.Core.Path.{_≡_}
 use mathlib.Core.Bool.{true}
 use mir.Syntax.{w64}

@@ -1,4 +1,4 @@
--- `metrics::MmpMetrics::quality_index` meets its contract. Assumes nothing.
+-- `metrics::MmpMetrics::quality_index` meets its contract.
 use Rattle.metrics.specs.Accessors.{qualityIndexOf}
 use Rattle.metrics.proofs.MmpMetrics.quality_index.Statement.{statement}
 use Rattle.metrics.proofs.MmpMetrics.quality_index.Tie as tie

@@ -1,4 +1,4 @@
--- `metrics::MmpMetrics::ratios_ok` meets its contract. Assumes nothing.
+-- `metrics::MmpMetrics::ratios_ok` meets its contract.
 use Rattle.metrics.specs.State.{ratiosOk}
 use Rattle.metrics.proofs.MmpMetrics.ratios_ok.Statement.{statement}
 use Rattle.metrics.proofs.MmpMetrics.ratios_ok.Tie as tie

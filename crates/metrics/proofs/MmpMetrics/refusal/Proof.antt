@@ -1,4 +1,4 @@
--- `metrics::MmpMetrics::refusal` meets its contract. Assumes nothing.
+-- `metrics::MmpMetrics::refusal` meets its contract.
 use Rattle.refusals.specs.Questions.{firstNo, asked}
 use Rattle.metrics.specs.State.{refusalOf}
 use Rattle.metrics.proofs.MmpMetrics.refusal.Statement.{statement}

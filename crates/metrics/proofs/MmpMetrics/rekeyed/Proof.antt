@@ -1,4 +1,4 @@
--- `metrics::MmpMetrics::rekeyed` meets its contract. Assumes nothing.
+-- `metrics::MmpMetrics::rekeyed` meets its contract.
 use mathlib.Core.Path.{refl}
 use lib.Ieee.{ofBits}
 use Rattle.metrics.specs.Updates.{rekeyed}

@@ -1,4 +1,4 @@
--- `metrics::MmpMetrics::report_refusal` meets its contract. Assumes nothing.
+-- `metrics::MmpMetrics::report_refusal` meets its contract.
 use mathlib.Core.Path.{sym}
 use Rattle.refusals.specs.Questions.{firstNo, asked}
 use Rattle.metrics.specs.Reports.{processRefusal}

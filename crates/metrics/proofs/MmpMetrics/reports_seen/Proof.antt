@@ -1,4 +1,4 @@
--- `metrics::MmpMetrics::reports_seen` meets its contract. Assumes nothing.
+-- `metrics::MmpMetrics::reports_seen` meets its contract.
 use Rattle.metrics.specs.Accessors.{reportsSeenOf}
 use Rattle.metrics.proofs.MmpMetrics.reports_seen.Statement.{statement}
 use Rattle.metrics.proofs.MmpMetrics.reports_seen.Tie as tie

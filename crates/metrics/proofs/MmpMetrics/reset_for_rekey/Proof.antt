@@ -1,4 +1,4 @@
--- `metrics::MmpMetrics::reset_for_rekey` meets its contract. Assumes nothing.
+-- `metrics::MmpMetrics::reset_for_rekey` meets its contract.
 use mathlib.Core.Path.{sym, _∙_}
 use borrow.Author.Tests.{eq-eqb, ne-eqb}
 use Rattle.metrics.specs.Updates.{rekeyOf}

@@ -1,4 +1,4 @@
--- `metrics::MmpMetrics::reversed` meets its contract. Assumes nothing.
+-- `metrics::MmpMetrics::reversed` meets its contract.
 use Rattle.metrics.specs.Updates.{reversed}
 use Rattle.metrics.proofs.MmpMetrics.reversed.Statement.{statement}
 use Rattle.metrics.proofs.MmpMetrics.reversed.Tie as tie

@@ -1,4 +1,4 @@
--- `metrics::MmpMetrics::rtt_arith_fail` meets its contract. Assumes nothing.
+-- `metrics::MmpMetrics::rtt_arith_fail` meets its contract.
 use Rattle.metrics.specs.Accessors.{rttArithFailOf}
 use Rattle.metrics.proofs.MmpMetrics.rtt_arith_fail.Statement.{statement}
 use Rattle.metrics.proofs.MmpMetrics.rtt_arith_fail.Tie as tie

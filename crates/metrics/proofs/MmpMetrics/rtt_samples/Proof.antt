@@ -1,4 +1,4 @@
--- `metrics::MmpMetrics::rtt_samples` meets its contract. Assumes nothing.
+-- `metrics::MmpMetrics::rtt_samples` meets its contract.
 use Rattle.metrics.specs.Accessors.{rttSamplesOf}
 use Rattle.metrics.proofs.MmpMetrics.rtt_samples.Statement.{statement}
 use Rattle.metrics.proofs.MmpMetrics.rtt_samples.Tie as tie

@@ -1,4 +1,4 @@
--- `metrics::MmpMetrics::rtt_zero` meets its contract. Assumes nothing.
+-- `metrics::MmpMetrics::rtt_zero` meets its contract.
 use Rattle.metrics.specs.Accessors.{rttZeroOf}
 use Rattle.metrics.proofs.MmpMetrics.rtt_zero.Statement.{statement}
 use Rattle.metrics.proofs.MmpMetrics.rtt_zero.Tie as tie

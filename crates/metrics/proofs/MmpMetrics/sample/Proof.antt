@@ -1,4 +1,4 @@
--- `metrics::MmpMetrics::sample` meets its contract. Assumes nothing.
+-- `metrics::MmpMetrics::sample` meets its contract.
 use borrow.Author.Needs.{needs}
 use native.Mathlib.Omega.{arith}
 use Rattle.figures.specs.RoundTrips.{sampleUs}

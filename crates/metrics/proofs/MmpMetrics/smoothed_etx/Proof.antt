@@ -1,4 +1,4 @@
--- `metrics::MmpMetrics::smoothed_etx` meets its contract. Assumes nothing.
+-- `metrics::MmpMetrics::smoothed_etx` meets its contract.
 use Rattle.metrics.specs.Accessors.{smoothedEtxOf}
 use Rattle.metrics.proofs.MmpMetrics.smoothed_etx.Statement.{statement}
 use Rattle.metrics.proofs.MmpMetrics.smoothed_etx.Tie as tie

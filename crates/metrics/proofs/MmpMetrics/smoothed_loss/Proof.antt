@@ -1,4 +1,4 @@
--- `metrics::MmpMetrics::smoothed_loss` meets its contract. Assumes nothing.
+-- `metrics::MmpMetrics::smoothed_loss` meets its contract.
 use Rattle.metrics.specs.Accessors.{smoothedLossOf}
 use Rattle.metrics.proofs.MmpMetrics.smoothed_loss.Statement.{statement}
 use Rattle.metrics.proofs.MmpMetrics.smoothed_loss.Tie as tie

@@ -1,4 +1,4 @@
--- `metrics::MmpMetrics::srtt_ms` meets its contract. Assumes nothing.
+-- `metrics::MmpMetrics::srtt_ms` meets its contract.
 use Rattle.metrics.specs.Accessors.{srttMsOf}
 use Rattle.metrics.proofs.MmpMetrics.srtt_ms.Statement.{statement}
 use Rattle.metrics.proofs.MmpMetrics.srtt_ms.Tie as tie

@@ -1,4 +1,4 @@
--- `metrics::MmpMetrics::trends_ok` meets its contract. Assumes nothing.
+-- `metrics::MmpMetrics::trends_ok` meets its contract.
 use Rattle.metrics.specs.State.{trendsOk}
 use Rattle.metrics.proofs.MmpMetrics.trends_ok.Statement.{statement}
 use Rattle.metrics.proofs.MmpMetrics.trends_ok.Tie as tie

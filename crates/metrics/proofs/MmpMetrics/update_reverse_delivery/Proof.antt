@@ -1,4 +1,4 @@
--- `metrics::MmpMetrics::update_reverse_delivery` meets its contract. Assumes nothing.
+-- `metrics::MmpMetrics::update_reverse_delivery` meets its contract.
 use mathlib.Core.Path.{sym, _∙_}
 use borrow.Author.Tests.{eq-eqb, ne-eqb}
 use Rattle.metrics.specs.Updates.{reverseOf}

@@ -1,4 +1,4 @@
--- `Reader::read_u8` meets its contract: it is a read of a lent reader. Assumes nothing.
+-- `Reader::read_u8` meets its contract: it is a read of a lent reader.
 use mathlib.Core.Path.{refl}
 use base.Logic.{emp}
 use contract.Monad.{factI}

@@ -1,4 +1,4 @@
--- `Reader::remaining` meets its contract: it passes its payload and its position on. Assumes nothing.
+-- `Reader::remaining` meets its contract: it passes its payload and its position on.
 use mathlib.Core.Path.{refl}
 use base.Logic.{emp}
 use contract.Monad.{factI}

@@ -1,4 +1,4 @@
--- `read_array_4_at` meets its contract: a reader made at the position is lent to `read_array_4`. Assumes nothing.
+-- `read_array_4_at` meets its contract: a reader made at the position is lent to `read_array_4`.
 use mathlib.Core.Path.{refl}
 use base.Logic.{emp}
 use contract.Monad.{factI, fact-mono}

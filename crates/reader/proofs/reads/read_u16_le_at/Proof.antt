@@ -1,4 +1,4 @@
--- `read_u16_le_at` meets its contract: a reader made at the position is lent to `read_u16_le`. Assumes nothing.
+-- `read_u16_le_at` meets its contract: a reader made at the position is lent to `read_u16_le`.
 use mathlib.Core.Path.{refl}
 use base.Logic.{emp}
 use contract.Monad.{factI, fact-mono}

@@ -1,4 +1,4 @@
--- `read_u8_at` meets its contract: a reader made at the position is lent to `read_u8`. Assumes nothing.
+-- `read_u8_at` meets its contract: a reader made at the position is lent to `read_u8`.
 use mathlib.Core.Path.{refl}
 use base.Logic.{emp}
 use contract.Monad.{factI, fact-mono}

@@ -1,4 +1,4 @@
--- `decode_sender_report` meets its contract: a new reader is asked for the report. Assumes nothing.
+-- `decode_sender_report` meets its contract: a new reader is asked for the report.
 use base.Logic.{emp}
 use contract.Monad.{factI}
 use contract.Running.{givenOf, tables, tablesOf}
@@ -11,10 +11,10 @@ use Rattle.reader.proofs.Questions.{sender-report}
 use Rattle.reader.proofs.Reader.new.Symbol as new-def
 use Rattle.reader.proofs.Reader.new.Symbol.{name as #new}
 use Rattle.reader.proofs.Reader.new.Met as new-thm
-use Rattle.reader.proofs.Reader.sender_report as g
-use Rattle.reader.proofs.Reader.sender_report.Symbol as g-def
-use Rattle.reader.proofs.Reader.sender_report.Symbol.{name as #g}
-use Rattle.reader.proofs.Reader.sender_report.Met as g-thm
+use Rattle.reader.proofs.Reader.decode_sender_report as g
+use Rattle.reader.proofs.Reader.decode_sender_report.Symbol as g-def
+use Rattle.reader.proofs.Reader.decode_sender_report.Symbol.{name as #g}
+use Rattle.reader.proofs.Reader.decode_sender_report.Met as g-thm
 use Rattle.reader.proofs.reports.decode_sender_report.Key.{name as #f}
 use Rattle.reader.proofs.reports.decode_sender_report as f
 use Rattle.reader.proofs.reports.decode_sender_report.Statement as stated
@@ -27,4 +27,4 @@ decode-sender-report-spec 𝓤 H 𝓜 𝓖 𝓡 =
     (tables 𝓤 H 𝓜 𝓡 code.env .C) (tables 𝓤 H 𝓜 𝓡 code.env .Λ) #f code.function (code.unfolded 𝓤 H 𝓜 𝓡)
     (meets sender-report 𝓤 H (𝓖 .A) (givenOf 𝓤 H 𝓜 𝓖) (𝓜 .mem) (𝓡 .run) (f.clauses 𝓤 H (𝓖 .A) (𝓜 .mem) (𝓡 .run)) (λ κs a g. factI 𝓤 _ (emp 𝓤) (sender-from-start (now (a .0)))) #g (tablesOf 𝓤 H 𝓜 (tables 𝓤 H 𝓜 𝓡 code.env))
     (cited 𝓤 H (New 𝓤 H (𝓖 .A) (𝓜 .mem) (𝓡 .run)) 𝓜 𝓡 code.env #new new-def.routine code.calls-reader·Reader·new (new-thm.met 𝓤 H 𝓜 𝓖 𝓡))
-    (cited 𝓤 H (tripleOf 𝓤 H (𝓖 .A) g.signature (g.spec 𝓤 H (𝓖 .A) (𝓜 .mem) (𝓡 .run))) 𝓜 𝓡 code.env #g g-def.routine code.calls-reader·Reader·sender-report (g-thm.met 𝓤 H 𝓜 𝓖 𝓡)))
+    (cited 𝓤 H (tripleOf 𝓤 H (𝓖 .A) g.signature (g.spec 𝓤 H (𝓖 .A) (𝓜 .mem) (𝓡 .run))) 𝓜 𝓡 code.env #g g-def.routine code.calls-reader·Reader·decode-sender-report (g-thm.met 𝓤 H 𝓜 𝓖 𝓡)))

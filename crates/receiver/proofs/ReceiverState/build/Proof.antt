@@ -1,4 +1,4 @@
--- `receiver::ReceiverState::build` meets its contract. Assumes nothing.
+-- `receiver::ReceiverState::build` meets its contract.
 use Rattle.refusals.proofs.PickedByTest.{yes, no}
 use mir.Syntax.{w32}
 use mir.Facts.{toZ-ofZ}

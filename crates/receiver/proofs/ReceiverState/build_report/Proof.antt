@@ -1,4 +1,4 @@
--- `receiver::ReceiverState::build_report` meets its contract. Assumes nothing.
+-- `receiver::ReceiverState::build_report` meets its contract.
 use Rattle.refusals.specs.Questions.{firstNo, asked}
 use mathlib.Core.Path.{_≡_, sym, _∙_}
 use borrow.Author.Tests.{eq-eqb, ne-eqb}

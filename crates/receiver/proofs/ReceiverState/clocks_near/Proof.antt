@@ -1,4 +1,4 @@
--- `receiver::ReceiverState::clocks_near` meets its contract. Assumes nothing.
+-- `receiver::ReceiverState::clocks_near` meets its contract.
 use Rattle.refusals.proofs.MissingClock.{clock-read}
 use Rattle.receiver.proofs.WellWithin.{clocks-near}
 use Rattle.receiver.proofs.ReceiverState.clocks_near.Statement.{statement}

@@ -1,4 +1,4 @@
--- `receiver::ReceiverState::counters_ok` meets its contract. Assumes nothing.
+-- `receiver::ReceiverState::counters_ok` meets its contract.
 use Rattle.receiver.proofs.ReceiverState.counters_ok.Statement.{statement}
 use Rattle.receiver.proofs.ReceiverState.counters_ok.Tie as tie
 

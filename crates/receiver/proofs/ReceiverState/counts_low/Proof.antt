@@ -1,4 +1,4 @@
--- `receiver::ReceiverState::counts_low` meets its contract. Assumes nothing.
+-- `receiver::ReceiverState::counts_low` meets its contract.
 use borrow.Author.Needs.{needs}
 use Rattle.receiver.proofs.WellWithin.{counts-low}
 use Rattle.receiver.proofs.ReceiverState.counts_low.Statement.{statement}

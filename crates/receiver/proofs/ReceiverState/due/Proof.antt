@@ -1,4 +1,4 @@
--- `receiver::ReceiverState::due` meets its contract. Assumes nothing.
+-- `receiver::ReceiverState::due` meets its contract.
 use Rattle.receiver.specs.Pacing.{isDue}
 use Rattle.receiver.proofs.ReceiverState.due.Statement.{statement}
 use Rattle.receiver.proofs.ReceiverState.due.Tie as tie

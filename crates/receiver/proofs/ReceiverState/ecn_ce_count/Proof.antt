@@ -1,4 +1,4 @@
--- `receiver::ReceiverState::ecn_ce_count` meets its contract. Assumes nothing.
+-- `receiver::ReceiverState::ecn_ce_count` meets its contract.
 use Rattle.receiver.proofs.ReceiverState.ecn_ce_count.Statement.{statement}
 use Rattle.receiver.proofs.ReceiverState.ecn_ce_count.Tie as tie
 

@@ -1,4 +1,4 @@
--- `receiver::ReceiverState::frame_refusal` meets its contract. Assumes nothing.
+-- `receiver::ReceiverState::frame_refusal` meets its contract.
 use Rattle.refusals.specs.Questions.{firstNo, asked}
 use mathlib.Core.Path.{sym}
 use Rattle.receiver.proofs.ReceiverState.frame_refusal.Statement.{statement}

@@ -1,4 +1,4 @@
--- `receiver::ReceiverState::jitter_us` meets its contract. Assumes nothing.
+-- `receiver::ReceiverState::jitter_us` meets its contract.
 use Rattle.receiver.proofs.ReceiverState.jitter_us.Statement.{statement}
 use Rattle.receiver.proofs.ReceiverState.jitter_us.Tie as tie
 

@@ -1,4 +1,4 @@
--- `receiver::ReceiverState::keeps_rule` meets its contract. Assumes nothing.
+-- `receiver::ReceiverState::keeps_rule` meets its contract.
 use Rattle.receiver.specs.State.{keepsRule}
 use Rattle.receiver.proofs.ReceiverState.keeps_rule.Statement.{statement}
 use Rattle.receiver.proofs.ReceiverState.keeps_rule.Tie as tie

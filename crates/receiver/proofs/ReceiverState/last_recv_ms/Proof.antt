@@ -1,4 +1,4 @@
--- `receiver::ReceiverState::last_recv_ms` meets its contract. Assumes nothing.
+-- `receiver::ReceiverState::last_recv_ms` meets its contract.
 use Rattle.receiver.proofs.ReceiverState.last_recv_ms.Statement.{statement}
 use Rattle.receiver.proofs.ReceiverState.last_recv_ms.Tie as tie
 

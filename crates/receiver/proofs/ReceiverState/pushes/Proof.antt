@@ -1,4 +1,4 @@
--- `receiver::ReceiverState::pushes` meets its contract. Assumes nothing.
+-- `receiver::ReceiverState::pushes` meets its contract.
 use Rattle.receiver.specs.Frames.{pushes}
 use Rattle.receiver.proofs.ReceiverState.pushes.Statement.{statement}
 use Rattle.receiver.proofs.ReceiverState.pushes.Tie as tie

@@ -1,4 +1,4 @@
--- `receiver::ReceiverState::record_recv` meets its contract. Assumes nothing.
+-- `receiver::ReceiverState::record_recv` meets its contract.
 use borrow.Author.Needs.{needs}
 use Rattle.receiver.proofs.ReceiverState.record_recv.Statement.{statement}
 use Rattle.receiver.proofs.ReceiverState.record_recv.Tie as tie

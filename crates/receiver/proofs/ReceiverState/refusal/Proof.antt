@@ -1,4 +1,4 @@
--- `receiver::ReceiverState::refusal` meets its contract. Assumes nothing.
+-- `receiver::ReceiverState::refusal` meets its contract.
 use Rattle.refusals.specs.Questions.{firstNo, asked}
 use Rattle.receiver.specs.State.{refusalOf}
 use Rattle.receiver.proofs.ReceiverState.refusal.Statement.{statement}

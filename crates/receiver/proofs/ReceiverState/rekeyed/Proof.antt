@@ -1,4 +1,4 @@
--- `receiver::ReceiverState::rekeyed` meets its contract. Assumes nothing.
+-- `receiver::ReceiverState::rekeyed` meets its contract.
 use Rattle.receiver.specs.State.{rekeyed}
 use Rattle.receiver.proofs.ReceiverState.rekeyed.Statement.{statement}
 use Rattle.receiver.proofs.ReceiverState.rekeyed.Tie as tie

@@ -1,4 +1,4 @@
--- `receiver::ReceiverState::reset_for_rekey` meets its contract. Assumes nothing.
+-- `receiver::ReceiverState::reset_for_rekey` meets its contract.
 use mathlib.Core.Path.{_≡_, sym, _∙_}
 use borrow.Author.Tests.{eq-eqb, ne-eqb}
 use Rattle.refusals.specs.Questions.{firstNo, asked}

@@ -1,4 +1,4 @@
--- `receiver::ReceiverState::should_send_report` meets its contract. Assumes nothing.
+-- `receiver::ReceiverState::should_send_report` meets its contract.
 use Rattle.refusals.specs.Questions.{firstNo, asked}
 use Rattle.receiver.specs.State.{clockRefusal}
 use Rattle.receiver.specs.Pacing.{shouldSendOf}

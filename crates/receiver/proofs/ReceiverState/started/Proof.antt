@@ -1,4 +1,4 @@
--- `receiver::ReceiverState::started` meets its contract. Assumes nothing.
+-- `receiver::ReceiverState::started` meets its contract.
 use Rattle.receiver.proofs.ReceiverState.started.Statement.{statement}
 use Rattle.receiver.proofs.ReceiverState.started.Tie as tie
 

@@ -1,4 +1,4 @@
--- `receiver::ReceiverState::well_within` meets its contract. Assumes nothing.
+-- `receiver::ReceiverState::well_within` meets its contract.
 use mathlib.Core.Path.{sym, _∙_}
 use mathlib.Core.Bool.{_&&_, and-eq-true-iff}
 use Rattle.receiver.proofs.WellWithin.{all-answered}

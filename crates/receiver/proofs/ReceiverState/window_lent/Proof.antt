@@ -1,4 +1,4 @@
--- `receiver::ReceiverState::window_lent` meets its contract. Assumes nothing.
+-- `receiver::ReceiverState::window_lent` meets its contract.
 use Rattle.receiver.proofs.WellWithin.{window-lent}
 use Rattle.receiver.proofs.ReceiverState.window_lent.Statement.{statement}
 use Rattle.receiver.proofs.ReceiverState.window_lent.Tie as tie

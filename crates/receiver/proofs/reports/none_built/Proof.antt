@@ -1,4 +1,4 @@
--- `receiver::reports::none_built` meets its contract. Assumes nothing.
+-- `receiver::reports::none_built` meets its contract.
 use Rattle.receiver.proofs.reports.none_built.Statement.{statement}
 use Rattle.receiver.proofs.reports.none_built.Tie as tie
 

@@ -1,4 +1,4 @@
--- `refusals::option::then_some` meets its contract. Assumes nothing.
+-- `refusals::option::then_some` meets its contract.
 use mathlib.Core.Path.{refl}
 use Rattle.refusals.specs.Answers.{thenSome}
 use Rattle.refusals.proofs.PickedByTest.{yes, no}

@@ -1,4 +1,4 @@
--- `refusals::option::unwrap_or_zero` meets its contract. Assumes nothing.
+-- `refusals::option::unwrap_or_zero` meets its contract.
 use borrow.Author.Needs.{needs}
 use Rattle.refusals.specs.Answers.{orZero}
 use Rattle.refusals.proofs.option.unwrap_or_zero.Statement.{statement}

@@ -1,4 +1,4 @@
--- `refusals::ranges::clock_ok` meets its contract. Assumes nothing.
+-- `refusals::ranges::clock_ok` meets its contract.
 use mathlib.Core.Path.{refl}
 use Rattle.refusals.proofs.ranges.clock_ok.Statement.{statement}
 use Rattle.refusals.proofs.ranges.clock_ok.Tie as tie

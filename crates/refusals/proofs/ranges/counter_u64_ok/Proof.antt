@@ -1,4 +1,4 @@
--- `refusals::ranges::counter_u64_ok` meets its contract. Assumes nothing.
+-- `refusals::ranges::counter_u64_ok` meets its contract.
 use borrow.Author.Needs.{needs}
 use Prim.Native.Nat.{_^_}
 use Rattle.refusals.proofs.RoomLeft.{room-left}

@@ -1,4 +1,4 @@
--- `refusals::ranges::etx_ok` meets its contract. Assumes nothing.
+-- `refusals::ranges::etx_ok` meets its contract.
 use lib.Ieee.{ofBits}
 use Rattle.refusals.proofs.ranges.etx_ok.Statement.{statement}
 use Rattle.refusals.proofs.ranges.etx_ok.Tie as tie

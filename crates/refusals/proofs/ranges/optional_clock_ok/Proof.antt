@@ -1,4 +1,4 @@
--- `refusals::ranges::optional_clock_ok` meets its contract. Assumes nothing.
+-- `refusals::ranges::optional_clock_ok` meets its contract.
 use borrow.Author.Needs.{needs}
 use Rattle.refusals.proofs.ranges.optional_clock_ok.Statement.{statement}
 use Rattle.refusals.proofs.ranges.optional_clock_ok.Tie as tie

@@ -1,4 +1,4 @@
--- `refusals::ranges::ratio_ok` meets its contract. Assumes nothing.
+-- `refusals::ranges::ratio_ok` meets its contract.
 use lib.Ieee.{ofBits}
 use Rattle.refusals.proofs.ranges.ratio_ok.Statement.{statement}
 use Rattle.refusals.proofs.ranges.ratio_ok.Tie as tie

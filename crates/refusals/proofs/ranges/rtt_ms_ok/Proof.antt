@@ -1,4 +1,4 @@
--- `refusals::ranges::rtt_ms_ok` meets its contract. Assumes nothing.
+-- `refusals::ranges::rtt_ms_ok` meets its contract.
 use lib.Ieee.{ofBits}
 use Rattle.refusals.proofs.ranges.rtt_ms_ok.Statement.{statement}
 use Rattle.refusals.proofs.ranges.rtt_ms_ok.Tie as tie

@@ -1,4 +1,4 @@
--- `refusals::ranges::trend_ok` meets its contract. Assumes nothing.
+-- `refusals::ranges::trend_ok` meets its contract.
 use lib.Ieee.{ofBits}
 use Rattle.refusals.proofs.ranges.trend_ok.Statement.{statement}
 use Rattle.refusals.proofs.ranges.trend_ok.Tie as tie

@@ -1,5 +1,4 @@
 -- `replay::tables::float_pattern` is safe: a float that does not differ from itself is no NaN.
--- Assumes nothing.
 use mathlib.Core.Path.{_≡_}
 use mathlib.Core.Bool.{false, not, true≢false}
 use lib.Dec.{T}
@@ -14,14 +13,8 @@ equals-itself nan h = absurd (true≢false h)
 equals-itself (inf s) h = tt
 equals-itself (fin s m e) h = tt
 
-returns : tie.Need-returns
-returns c = search needs
-
 float-to-bits-result : tie.Need-float-to-bits-result
 float-to-bits-result c = equals-itself (c .before .args .x) (c .if1 .left)
 
-returns-2 : tie.Need-returns-2
-returns-2 c = search needs
-
 pub float-pattern-spec : {M : Type 1} → statement M
-float-pattern-spec = tie.close (tie.spec returns float-to-bits-result returns-2)
+float-pattern-spec = tie.close (tie.spec (λ c. search needs) float-to-bits-result (λ c. search needs))

@@ -1,4 +1,4 @@
--- `sender::SenderState::build` meets its contract. Assumes nothing.
+-- `sender::SenderState::build` meets its contract.
 use Rattle.refusals.proofs.PickedByTest.{yes, no}
 use Rattle.sender.specs.Reports.{built}
 use Rattle.sender.proofs.SenderState.build.Statement.{statement}

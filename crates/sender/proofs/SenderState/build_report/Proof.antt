@@ -1,4 +1,4 @@
--- `sender::SenderState::build_report` meets its contract. Assumes nothing.
+-- `sender::SenderState::build_report` meets its contract.
 use mathlib.Core.Path.{_≡_, sym, _∙_}
 use borrow.Author.Tests.{eq-eqb, ne-eqb}
 use Rattle.refusals.specs.Questions.{firstNo, asked}

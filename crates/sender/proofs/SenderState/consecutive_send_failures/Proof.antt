@@ -1,4 +1,4 @@
--- `sender::SenderState::consecutive_send_failures` meets its contract. Assumes nothing.
+-- `sender::SenderState::consecutive_send_failures` meets its contract.
 use Rattle.sender.proofs.SenderState.consecutive_send_failures.Statement.{statement}
 use Rattle.sender.proofs.SenderState.consecutive_send_failures.Tie as tie
 

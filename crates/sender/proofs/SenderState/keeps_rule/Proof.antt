@@ -1,4 +1,4 @@
--- `sender::SenderState::keeps_rule` meets its contract. Assumes nothing.
+-- `sender::SenderState::keeps_rule` meets its contract.
 use Rattle.sender.specs.State.{keepsRule}
 use Rattle.sender.proofs.SenderState.keeps_rule.Statement.{statement}
 use Rattle.sender.proofs.SenderState.keeps_rule.Tie as tie

@@ -1,4 +1,4 @@
--- `sender::SenderState::open` meets its contract. Assumes nothing.
+-- `sender::SenderState::open` meets its contract.
 use Rattle.sender.specs.Sent.{opened}
 use Rattle.sender.proofs.SenderState.open.Statement.{statement}
 use Rattle.sender.proofs.SenderState.open.Tie as tie

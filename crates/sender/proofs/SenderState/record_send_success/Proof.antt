@@ -1,4 +1,4 @@
--- `sender::SenderState::record_send_success` meets its contract. Assumes nothing.
+-- `sender::SenderState::record_send_success` meets its contract.
 use mathlib.Core.Path.{sym, _∙_}
 use borrow.Author.Tests.{eq-eqb, ne-eqb}
 use Rattle.sender.specs.Backoff.{successOf}

@@ -1,4 +1,4 @@
--- `sender::SenderState::record_sent` meets its contract. Assumes nothing.
+-- `sender::SenderState::record_sent` meets its contract.
 use mathlib.Core.Path.{_≡_, refl, sym, ap, _∙_}
 use borrow.Author.Tests.{eq-eqb, ne-eqb}
 use mathlib.Core.Bool.{Bool, true, false, cond}
@@ -24,7 +24,7 @@ unmoved field s counter timestamp e = go (s .«interval_has_data»)
     go true = refl
     go false = e
 
-cast : tie.Need-cast-saturating-add
+cast : tie.Need-cast-saturating-add-u32
 cast c = record { fits = omega (arith, answered (c .before) .size) }
 
 add-packets : tie.Need-add-state
@@ -46,7 +46,7 @@ unfolding sentOf sent
 accepted c =
     let gate = c .before .before .before .before .before .sent-refusal .ensures in
     simp (
-      c .before .before .saturating-add .ensures,
+      c .before .before .saturating-add-u32 .ensures,
       c .before .before .before .«open» .ensures,
       gate,
       eq-eqb _ 0 (sym gate ∙ c .before .before .before .before .if1 .taken),
@@ -59,14 +59,4 @@ refused c =
     rw (gate, ne-eqb _ 0 (rw gate at (c .if1 .left)))
 
 pub record-sent-spec : {M : Type 1} → statement M
-record-sent-spec =
-    tie.close
-    (tie.spec
-    (λ c κs. tt)
-    (λ c κs. tt)
-    cast
-    (λ c κs. tt)
-    add-packets
-    add-bytes
-    accepted
-    refused)
+record-sent-spec = tie.close (tie.spec (λ c κs. tt) (λ c κs. tt) cast (λ c κs. tt) add-packets add-bytes accepted refused)

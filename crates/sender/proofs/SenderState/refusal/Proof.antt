@@ -1,4 +1,4 @@
--- `sender::SenderState::refusal` meets its contract. Assumes nothing.
+-- `sender::SenderState::refusal` meets its contract.
 use Rattle.refusals.specs.Questions.{firstNo, asked}
 use Rattle.sender.specs.State.{refusalOf}
 use Rattle.sender.proofs.SenderState.refusal.Statement.{statement}

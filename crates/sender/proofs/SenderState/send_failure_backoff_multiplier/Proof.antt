@@ -1,4 +1,4 @@
--- `sender::SenderState::send_failure_backoff_multiplier` meets its contract. Assumes nothing.
+-- `sender::SenderState::send_failure_backoff_multiplier` meets its contract.
 use Rattle.sender.proofs.SenderState.send_failure_backoff_multiplier.Statement.{statement}
 use Rattle.sender.proofs.SenderState.send_failure_backoff_multiplier.Tie as tie
 

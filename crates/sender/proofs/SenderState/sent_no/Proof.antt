@@ -1,4 +1,4 @@
--- `sender::SenderState::sent_no` meets its contract. Assumes nothing.
+-- `sender::SenderState::sent_no` meets its contract.
 use Rattle.refusals.specs.Questions.{firstNo, asked}
 use Rattle.sender.proofs.SenderState.sent_no.Statement.{statement}
 use Rattle.sender.proofs.SenderState.sent_no.Tie as tie

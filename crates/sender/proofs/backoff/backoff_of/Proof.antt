@@ -1,4 +1,4 @@
--- `sender::backoff::backoff_of` meets its contract. Assumes nothing.
+-- `sender::backoff::backoff_of` meets its contract.
 use mathlib.Core.Path.{_≡_, _∙_}
 use Prim.Native.Nat.{ℕ, _*_, _%_, _^_, _≤_, _<_, min}
 use borrow.Author.Needs.{needs}

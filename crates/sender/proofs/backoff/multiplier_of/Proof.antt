@@ -1,4 +1,4 @@
--- `sender::backoff::multiplier_of` meets its contract. Assumes nothing.
+-- `sender::backoff::multiplier_of` meets its contract.
 use borrow.Author.Needs.{needs}
 use Rattle.sender.proofs.FloatRoute.{multiplier-exact}
 use Rattle.sender.proofs.backoff.multiplier_of.Statement.{statement}

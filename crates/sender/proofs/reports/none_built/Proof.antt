@@ -1,4 +1,4 @@
--- `sender::reports::none_built` meets its contract. Assumes nothing.
+-- `sender::reports::none_built` meets its contract.
 use Rattle.sender.proofs.reports.none_built.Statement.{statement}
 use Rattle.sender.proofs.reports.none_built.Tie as tie
 

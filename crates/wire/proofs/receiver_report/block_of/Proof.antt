@@ -1,4 +1,4 @@
--- `wire::receiver_report::block_of` meets its contract. Assumes nothing.
+-- `wire::receiver_report::block_of` meets its contract.
 use borrow.Author.Needs.{needs}
 use Rattle.wire.proofs.Blocks.{receiver-block}
 use Rattle.wire.proofs.receiver_report.block_of.Statement.{statement}

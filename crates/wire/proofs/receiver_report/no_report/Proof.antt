@@ -1,4 +1,4 @@
--- `wire::receiver_report::no_report` meets its contract. Assumes nothing.
+-- `wire::receiver_report::no_report` meets its contract.
 use mathlib.Core.Path.{refl}
 use Rattle.wire.specs.ReceiverReport.{noReport}
 use Rattle.wire.proofs.receiver_report.no_report.Statement.{statement}

@@ -1,4 +1,4 @@
--- `wire::receiver_report::report_in` meets its contract. Assumes nothing.
+-- `wire::receiver_report::report_in` meets its contract.
 use borrow.Author.Needs.{needs}
 use Rattle.wire.specs.ReceiverReport.{reportIn}
 use mathlib.Core.Path.{_∙_}

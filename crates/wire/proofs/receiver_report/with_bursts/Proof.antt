@@ -1,4 +1,4 @@
--- `wire::receiver_report::with_bursts` meets its contract. Assumes nothing.
+-- `wire::receiver_report::with_bursts` meets its contract.
 use borrow.Author.Needs.{needs}
 use Rattle.wire.proofs.receiver_report.with_bursts.Statement.{statement}
 use Rattle.wire.proofs.receiver_report.with_bursts.Tie as tie

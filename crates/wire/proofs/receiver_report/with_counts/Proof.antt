@@ -1,4 +1,4 @@
--- `wire::receiver_report::with_counts` meets its contract. Assumes nothing.
+-- `wire::receiver_report::with_counts` meets its contract.
 use borrow.Author.Needs.{needs}
 use Rattle.wire.proofs.receiver_report.with_counts.Statement.{statement}
 use Rattle.wire.proofs.receiver_report.with_counts.Tie as tie

@@ -1,4 +1,4 @@
--- `wire::receiver_report::with_delay` meets its contract. Assumes nothing.
+-- `wire::receiver_report::with_delay` meets its contract.
 use borrow.Author.Needs.{needs}
 use mir.Syntax.{w32}
 use mir.Facts.{toZ-ofZ}

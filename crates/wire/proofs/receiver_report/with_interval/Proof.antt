@@ -1,4 +1,4 @@
--- `wire::receiver_report::with_interval` meets its contract. Assumes nothing.
+-- `wire::receiver_report::with_interval` meets its contract.
 use borrow.Author.Needs.{needs}
 use Rattle.wire.proofs.receiver_report.with_interval.Statement.{statement}
 use Rattle.wire.proofs.receiver_report.with_interval.Tie as tie

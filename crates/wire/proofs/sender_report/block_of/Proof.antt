@@ -1,4 +1,4 @@
--- `wire::sender_report::block_of` meets its contract. Assumes nothing.
+-- `wire::sender_report::block_of` meets its contract.
 use borrow.Author.Needs.{needs}
 use Rattle.wire.proofs.Blocks.{sender-block}
 use Rattle.wire.proofs.sender_report.block_of.Statement.{statement}

@@ -1,4 +1,4 @@
--- `wire::sender_report::no_report` meets its contract. Assumes nothing.
+-- `wire::sender_report::no_report` meets its contract.
 use mathlib.Core.Path.{refl}
 use Rattle.wire.specs.SenderReport.{noReport}
 use Rattle.wire.proofs.sender_report.no_report.Statement.{statement}

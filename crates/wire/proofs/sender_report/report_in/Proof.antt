@@ -1,4 +1,4 @@
--- `wire::sender_report::report_in` meets its contract. Assumes nothing.
+-- `wire::sender_report::report_in` meets its contract.
 use borrow.Author.Needs.{needs}
 use Rattle.wire.specs.SenderReport.{reportIn}
 use Rattle.wire.proofs.sender_report.report_in.Statement.{statement}

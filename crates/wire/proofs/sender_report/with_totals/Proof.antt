@@ -1,4 +1,4 @@
--- `wire::sender_report::with_totals` meets its contract. Assumes nothing.
+-- `wire::sender_report::with_totals` meets its contract.
 use borrow.Author.Needs.{needs}
 use Rattle.wire.proofs.sender_report.with_totals.Statement.{statement}
 use Rattle.wire.proofs.sender_report.with_totals.Tie as tie

@@ -1,4 +1,4 @@
--- `algorithms::ewma::DualEwma::initialized` meets its contract. Assumes nothing.
+-- `algorithms::ewma::DualEwma::initialized` meets its contract.
 use Rattle.algorithms.proofs.ewma.DualEwma.initialized.Statement.{statement}
 use Rattle.algorithms.proofs.ewma.DualEwma.initialized.Tie as tie
 

@@ -1,4 +1,4 @@
--- `algorithms::ewma::DualEwma::keeps_rule` meets its contract. Assumes nothing.
+-- `algorithms::ewma::DualEwma::keeps_rule` meets its contract.
 use Rattle.algorithms.specs.Ewma.{keepsRule}
 use Rattle.algorithms.proofs.ewma.DualEwma.keeps_rule.Statement.{statement}
 use Rattle.algorithms.proofs.ewma.DualEwma.keeps_rule.Tie as tie

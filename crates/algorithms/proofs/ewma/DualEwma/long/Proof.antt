@@ -1,4 +1,4 @@
--- `algorithms::ewma::DualEwma::long` meets its contract. Assumes nothing.
+-- `algorithms::ewma::DualEwma::long` meets its contract.
 use Rattle.algorithms.proofs.ewma.DualEwma.long.Statement.{statement}
 use Rattle.algorithms.proofs.ewma.DualEwma.long.Tie as tie
 

@@ -1,4 +1,4 @@
--- `algorithms::ewma::DualEwma::new` meets its contract. Assumes nothing.
+-- `algorithms::ewma::DualEwma::new` meets its contract.
 use mathlib.Core.Path.{refl}
 use lib.Ieee.{ofBits}
 use Rattle.algorithms.proofs.ewma.DualEwma.new.Statement.{statement}

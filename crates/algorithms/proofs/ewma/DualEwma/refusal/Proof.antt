@@ -1,4 +1,4 @@
--- `algorithms::ewma::DualEwma::refusal` meets its contract. Assumes nothing.
+-- `algorithms::ewma::DualEwma::refusal` meets its contract.
 use Rattle.refusals.specs.Questions.{firstNo, asked}
 use Rattle.algorithms.specs.Ewma.{refusalOf}
 use Rattle.algorithms.proofs.ewma.DualEwma.refusal.Statement.{statement}

@@ -1,4 +1,4 @@
--- `algorithms::ewma::DualEwma::short` meets its contract. Assumes nothing.
+-- `algorithms::ewma::DualEwma::short` meets its contract.
 use Rattle.algorithms.proofs.ewma.DualEwma.short.Statement.{statement}
 use Rattle.algorithms.proofs.ewma.DualEwma.short.Tie as tie
 

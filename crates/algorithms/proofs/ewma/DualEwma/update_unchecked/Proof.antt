@@ -1,4 +1,4 @@
--- `algorithms::ewma::DualEwma::update_unchecked` meets its contract. Assumes nothing.
+-- `algorithms::ewma::DualEwma::update_unchecked` meets its contract.
 use Rattle.algorithms.specs.Ewma.{stepped}
 use Rattle.algorithms.proofs.ewma.DualEwma.update_unchecked.Statement.{statement}
 use Rattle.algorithms.proofs.ewma.DualEwma.update_unchecked.Tie as tie

@@ -1,4 +1,4 @@
--- `algorithms::jitter::JitterEstimator::jitter_us` meets its contract. Assumes nothing.
+-- `algorithms::jitter::JitterEstimator::jitter_us` meets its contract.
 use mathlib.Core.Path.{_≡_, sym, _∙_}
 use borrow.Author.Tests.{eq-eqb, ne-eqb}
 use native.Mathlib.Omega.{arith}

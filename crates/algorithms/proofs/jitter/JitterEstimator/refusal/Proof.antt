@@ -1,4 +1,4 @@
--- `algorithms::jitter::JitterEstimator::refusal` meets its contract. Assumes nothing.
+-- `algorithms::jitter::JitterEstimator::refusal` meets its contract.
 use Rattle.refusals.specs.Questions.{firstNo, asked}
 use Rattle.algorithms.specs.Jitter.{refusalOf}
 use Rattle.algorithms.proofs.jitter.JitterEstimator.refusal.Statement.{statement}

@@ -1,4 +1,4 @@
--- `algorithms::jitter::JitterEstimator::update` meets its contract. Assumes nothing.
+-- `algorithms::jitter::JitterEstimator::update` meets its contract.
 use mathlib.Core.Path.{sym, _∙_}
 use mir.Syntax.{w32}
 use mir.Facts.{toZ-ofZ}

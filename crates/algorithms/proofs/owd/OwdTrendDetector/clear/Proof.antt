@@ -1,4 +1,4 @@
--- `algorithms::owd::OwdTrendDetector::clear` meets its contract. Assumes nothing.
+-- `algorithms::owd::OwdTrendDetector::clear` meets its contract.
 use Rattle.refusals.specs.Questions.{firstNo, asked}
 use Rattle.algorithms.specs.Owd.{clearAnswer}
 use Rattle.algorithms.proofs.OwdGates.{accepted, refused}

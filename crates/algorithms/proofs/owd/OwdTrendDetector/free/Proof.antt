@@ -1,4 +1,4 @@
--- `algorithms::owd::OwdTrendDetector::free` meets its contract. Assumes nothing.
+-- `algorithms::owd::OwdTrendDetector::free` meets its contract.
 use Rattle.algorithms.specs.Owd.{free}
 use Rattle.algorithms.proofs.owd.OwdTrendDetector.free.Statement.{statement}
 use Rattle.algorithms.proofs.owd.OwdTrendDetector.free.Tie as tie

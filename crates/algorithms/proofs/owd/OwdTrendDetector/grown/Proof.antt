@@ -1,4 +1,4 @@
--- `algorithms::owd::OwdTrendDetector::grown` meets its contract. Assumes nothing.
+-- `algorithms::owd::OwdTrendDetector::grown` meets its contract.
 use borrow.Author.Needs.{needs}
 use borrow.Author.Tests.{lt-ltb, le-ltb}
 use Rattle.algorithms.specs.Owd.{grown}

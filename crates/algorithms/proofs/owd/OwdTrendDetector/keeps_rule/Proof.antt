@@ -1,4 +1,4 @@
--- `algorithms::owd::OwdTrendDetector::keeps_rule` meets its contract. Assumes nothing.
+-- `algorithms::owd::OwdTrendDetector::keeps_rule` meets its contract.
 use mathlib.Core.Path.{refl}
 use Rattle.algorithms.specs.Owd.{keepsRule}
 use Rattle.algorithms.proofs.owd.OwdTrendDetector.keeps_rule.Statement.{statement}

@@ -1,4 +1,4 @@
--- `algorithms::owd::OwdTrendDetector::live_trend` meets its contract. Assumes nothing.
+-- `algorithms::owd::OwdTrendDetector::live_trend` meets its contract.
 use mathlib.Core.Path.{_≡_, sym, _∙_}
 use Prim.Native.Nat.{_^_, _<_}
 use mathlib.Core.Bool.{true, false}

@@ -1,4 +1,4 @@
--- `algorithms::owd::OwdTrendDetector::new` meets its contract. Assumes nothing.
+-- `algorithms::owd::OwdTrendDetector::new` meets its contract.
 use mathlib.Core.Path.{ap, _∙_}
 use native.Mathlib.Omega.{arith}
 use Rattle.algorithms.specs.Owd.{empty, newOf}

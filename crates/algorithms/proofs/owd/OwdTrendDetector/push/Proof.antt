@@ -1,4 +1,4 @@
--- `algorithms::owd::OwdTrendDetector::push` meets its contract. Assumes nothing.
+-- `algorithms::owd::OwdTrendDetector::push` meets its contract.
 use mathlib.Core.Path.{_≡_, ap, _∙_}
 use borrow.Author.Needs.{needs}
 use lib.ListN.{set}

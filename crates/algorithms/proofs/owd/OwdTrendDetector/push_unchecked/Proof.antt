@@ -1,4 +1,4 @@
--- `algorithms::owd::OwdTrendDetector::push_unchecked` meets its contract. Assumes nothing.
+-- `algorithms::owd::OwdTrendDetector::push_unchecked` meets its contract.
 use borrow.Author.Needs.{needs}
 use mir.Syntax.{w64}
 use mir.ValLaws.{toZ-ofZ}

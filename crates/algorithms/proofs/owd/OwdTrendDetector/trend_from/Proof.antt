@@ -1,4 +1,4 @@
--- `algorithms::owd::OwdTrendDetector::trend_from` meets its contract. Assumes nothing.
+-- `algorithms::owd::OwdTrendDetector::trend_from` meets its contract.
 use mathlib.Core.Path.{_≡_, refl, sym, subst, _∙_}
 use Prim.Native.Nat.{ℕ, _^_, _≤_, _<_}
 use mathlib.Core.List.{List}

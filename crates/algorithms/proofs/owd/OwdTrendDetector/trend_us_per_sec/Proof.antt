@@ -1,4 +1,4 @@
--- `algorithms::owd::OwdTrendDetector::trend_us_per_sec` meets its contract. Assumes nothing.
+-- `algorithms::owd::OwdTrendDetector::trend_us_per_sec` meets its contract.
 use mathlib.Core.Path.{_≡_, sym, _∙_}
 use Rattle.refusals.specs.Questions.{firstNo, asked}
 use Rattle.algorithms.proofs.OwdTrendGates.{gate, trend-in-order, trend-accepted, trend-refused}

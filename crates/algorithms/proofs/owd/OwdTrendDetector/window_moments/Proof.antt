@@ -1,4 +1,4 @@
--- `algorithms::owd::OwdTrendDetector::window_moments` meets its contract: the two runs are the window. Assumes nothing.
+-- `algorithms::owd::OwdTrendDetector::window_moments` meets its contract: the two runs are the window.
 use mathlib.Core.Path.{_≡_, sym, _∙_}
 use Prim.Native.Nat.{ℕ, _+_, _-_, min}
 use native.Mathlib.Omega.{arith}

@@ -1,4 +1,4 @@
--- `algorithms::owd::OwdTrendDetector::window_sums` meets its contract: the two runs are the window. Assumes nothing.
+-- `algorithms::owd::OwdTrendDetector::window_sums` meets its contract: the two runs are the window.
 use lib.Ieee.{ofBits}
 use Rattle.floats.specs.Operations.{zero-float}
 use Rattle.algorithms.proofs.OwdStretches.{summed-window}

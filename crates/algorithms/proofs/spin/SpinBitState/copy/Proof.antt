@@ -1,4 +1,4 @@
--- `algorithms::spin::SpinBitState::copy` meets its contract. Assumes nothing.
+-- `algorithms::spin::SpinBitState::copy` meets its contract.
 use mathlib.Core.Path.{refl}
 use borrow.Author.Tests.{lt-ltb, le-ltb}
 use Rattle.refusals.proofs.PickedByTest.{yes, no}

@@ -1,4 +1,4 @@
--- `algorithms::spin::SpinBitState::is_initiator` meets its contract. Assumes nothing.
+-- `algorithms::spin::SpinBitState::is_initiator` meets its contract.
 use Rattle.algorithms.proofs.spin.SpinBitState.is_initiator.Statement.{statement}
 use Rattle.algorithms.proofs.spin.SpinBitState.is_initiator.Tie as tie
 

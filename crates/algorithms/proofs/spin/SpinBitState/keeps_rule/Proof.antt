@@ -1,4 +1,4 @@
--- `algorithms::spin::SpinBitState::keeps_rule` meets its contract. Assumes nothing.
+-- `algorithms::spin::SpinBitState::keeps_rule` meets its contract.
 use Rattle.algorithms.specs.Spin.{keepsRule}
 use Rattle.algorithms.proofs.spin.SpinBitState.keeps_rule.Statement.{statement}
 use Rattle.algorithms.proofs.spin.SpinBitState.keeps_rule.Tie as tie

@@ -1,4 +1,4 @@
--- `algorithms::spin::SpinBitState::reflect` meets its contract. Assumes nothing.
+-- `algorithms::spin::SpinBitState::reflect` meets its contract.
 use Rattle.refusals.proofs.PickedByTest.{yes, no}
 use mathlib.Core.Path.{refl}
 use Rattle.algorithms.specs.Spin.{reflected}

@@ -1,4 +1,4 @@
--- `algorithms::spin::SpinBitState::refusal` meets its contract. Assumes nothing.
+-- `algorithms::spin::SpinBitState::refusal` meets its contract.
 use Rattle.refusals.specs.Questions.{firstNo, asked}
 use Rattle.algorithms.specs.Spin.{refusalOf}
 use Rattle.algorithms.proofs.spin.SpinBitState.refusal.Statement.{statement}

@@ -1,4 +1,4 @@
--- `algorithms::spin::SpinBitState::restart` meets its contract. Assumes nothing.
+-- `algorithms::spin::SpinBitState::restart` meets its contract.
 use mathlib.Core.Path.{sym, _∙_}
 use borrow.Author.Tests.{eq-eqb, ne-eqb}
 use Rattle.algorithms.specs.Spin.{restartOf}

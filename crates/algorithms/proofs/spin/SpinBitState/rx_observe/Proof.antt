@@ -1,4 +1,4 @@
--- `algorithms::spin::SpinBitState::rx_observe` meets its contract. Assumes nothing.
+-- `algorithms::spin::SpinBitState::rx_observe` meets its contract.
 use mathlib.Core.Path.{_≡_, sym, _∙_}
 use borrow.Author.Tests.{eq-eqb, ne-eqb}
 use Rattle.refusals.specs.Questions.{firstNo, asked}

@@ -1,4 +1,4 @@
--- `algorithms::spin::SpinBitState::rx_observe_unchecked` meets its contract. Assumes nothing.
+-- `algorithms::spin::SpinBitState::rx_observe_unchecked` meets its contract.
 use Rattle.refusals.proofs.PickedByTest.{yes, no}
 use Rattle.algorithms.specs.Spin.{observed}
 use Rattle.algorithms.proofs.spin.SpinBitState.rx_observe_unchecked.Statement.{statement}

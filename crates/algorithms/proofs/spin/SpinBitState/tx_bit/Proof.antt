@@ -1,4 +1,4 @@
--- `algorithms::spin::SpinBitState::tx_bit` meets its contract. Assumes nothing.
+-- `algorithms::spin::SpinBitState::tx_bit` meets its contract.
 use Rattle.algorithms.proofs.spin.SpinBitState.tx_bit.Statement.{statement}
 use Rattle.algorithms.proofs.spin.SpinBitState.tx_bit.Tie as tie
 

@@ -1,4 +1,4 @@
--- `algorithms::srtt::SrttEstimator::initialized` meets its contract. Assumes nothing.
+-- `algorithms::srtt::SrttEstimator::initialized` meets its contract.
 use Rattle.algorithms.proofs.srtt.SrttEstimator.initialized.Statement.{statement}
 use Rattle.algorithms.proofs.srtt.SrttEstimator.initialized.Tie as tie
 

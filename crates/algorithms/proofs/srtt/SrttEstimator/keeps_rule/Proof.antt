@@ -1,4 +1,4 @@
--- `algorithms::srtt::SrttEstimator::keeps_rule` meets its contract. Assumes nothing.
+-- `algorithms::srtt::SrttEstimator::keeps_rule` meets its contract.
 use mir.Syntax.{w64}
 use mir.Facts.{toZ-ofZ}
 use Rattle.algorithms.specs.Srtt.{keepsRule}

@@ -1,4 +1,4 @@
--- `algorithms::srtt::SrttEstimator::refusal` meets its contract. Assumes nothing.
+-- `algorithms::srtt::SrttEstimator::refusal` meets its contract.
 use Rattle.refusals.specs.Questions.{firstNo, asked}
 use Rattle.algorithms.specs.Srtt.{refusalOf}
 use Rattle.algorithms.proofs.srtt.SrttEstimator.refusal.Statement.{statement}

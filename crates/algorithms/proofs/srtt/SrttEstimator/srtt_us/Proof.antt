@@ -1,4 +1,4 @@
--- `algorithms::srtt::SrttEstimator::srtt_us` meets its contract. Assumes nothing.
+-- `algorithms::srtt::SrttEstimator::srtt_us` meets its contract.
 use mir.Syntax.{w64}
 use mir.Facts.{toZ-ofZ}
 use Rattle.algorithms.proofs.srtt.SrttEstimator.srtt_us.Statement.{statement}

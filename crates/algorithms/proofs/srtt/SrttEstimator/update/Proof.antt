@@ -1,4 +1,4 @@
--- `algorithms::srtt::SrttEstimator::update` meets its contract. Assumes nothing.
+-- `algorithms::srtt::SrttEstimator::update` meets its contract.
 use mathlib.Core.Path.{_≡_, sym, _∙_}
 use borrow.Author.Tests.{eq-eqb, ne-eqb}
 use mir.Syntax.{w64}

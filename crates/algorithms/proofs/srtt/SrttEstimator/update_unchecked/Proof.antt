@@ -1,4 +1,4 @@
--- `algorithms::srtt::SrttEstimator::update_unchecked` meets its contract. Assumes nothing.
+-- `algorithms::srtt::SrttEstimator::update_unchecked` meets its contract.
 use mathlib.Core.Path.{_≡_, ap, _∙_}
 use Prim.Native.Nat.{ℕ, _/_, _<_, _^_}
 use native.Mathlib.Omega.{arith}

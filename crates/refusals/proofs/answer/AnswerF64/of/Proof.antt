@@ -1,4 +1,4 @@
--- `refusals::answer::AnswerF64::of` meets its contract. Assumes nothing.
+-- `refusals::answer::AnswerF64::of` meets its contract.
 use borrow.Author.Tests.{eq-eqb, ne-eqb}
 use lib.Ieee.{ofBits}
 use Rattle.refusals.specs.Answers.{answerF64}

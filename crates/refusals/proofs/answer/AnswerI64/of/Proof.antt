@@ -1,4 +1,4 @@
--- `refusals::answer::AnswerI64::of` meets its contract. Assumes nothing.
+-- `refusals::answer::AnswerI64::of` meets its contract.
 use mir.Syntax.{w64}
 use mir.Facts.{toZ-ofZ}
 use borrow.Author.Tests.{eq-eqb, ne-eqb}

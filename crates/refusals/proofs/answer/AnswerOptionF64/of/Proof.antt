@@ -1,4 +1,4 @@
--- `refusals::answer::AnswerOptionF64::of` meets its contract. Assumes nothing.
+-- `refusals::answer::AnswerOptionF64::of` meets its contract.
 use borrow.Author.Tests.{eq-eqb, ne-eqb}
 use Rattle.refusals.specs.Answers.{answerOptionF64}
 use Rattle.refusals.proofs.answer.AnswerOptionF64.of.Statement.{statement}

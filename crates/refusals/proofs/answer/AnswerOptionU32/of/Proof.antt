@@ -1,4 +1,4 @@
--- `refusals::answer::AnswerOptionU32::of` meets its contract. Assumes nothing.
+-- `refusals::answer::AnswerOptionU32::of` meets its contract.
 use borrow.Author.Tests.{eq-eqb, ne-eqb}
 use Rattle.refusals.specs.Answers.{answerOptionU32}
 use Rattle.refusals.proofs.answer.AnswerOptionU32.of.Statement.{statement}

@@ -1,4 +1,4 @@
--- `refusals::answer::AnswerOptionU64::of` meets its contract. Assumes nothing.
+-- `refusals::answer::AnswerOptionU64::of` meets its contract.
 use borrow.Author.Tests.{eq-eqb, ne-eqb}
 use Rattle.refusals.specs.Answers.{answerOptionU64}
 use Rattle.refusals.proofs.answer.AnswerOptionU64.of.Statement.{statement}

@@ -1,4 +1,4 @@
--- `refusals::answer::AnswerU32::of` meets its contract. Assumes nothing.
+-- `refusals::answer::AnswerU32::of` meets its contract.
 use borrow.Author.Tests.{eq-eqb, ne-eqb}
 use Rattle.refusals.specs.Answers.{answerU32}
 use Rattle.refusals.proofs.answer.AnswerU32.of.Statement.{statement}

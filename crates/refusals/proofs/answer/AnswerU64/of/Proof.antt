@@ -1,4 +1,4 @@
--- `refusals::answer::AnswerU64::of` meets its contract. Assumes nothing.
+-- `refusals::answer::AnswerU64::of` meets its contract.
 use borrow.Author.Tests.{eq-eqb, ne-eqb}
 use Rattle.refusals.specs.Answers.{answerU64}
 use Rattle.refusals.proofs.answer.AnswerU64.of.Statement.{statement}

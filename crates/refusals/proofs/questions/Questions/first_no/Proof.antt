@@ -1,4 +1,4 @@
--- `refusals::questions::Questions::first_no` meets its contract. Assumes nothing.
+-- `refusals::questions::Questions::first_no` meets its contract.
 use Rattle.refusals.specs.Questions.{firstNo, asked}
 use Rattle.refusals.proofs.questions.Questions.first_no.Statement.{statement}
 use Rattle.refusals.proofs.questions.Questions.first_no.Tie as tie

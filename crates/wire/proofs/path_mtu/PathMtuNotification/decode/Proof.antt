@@ -1,4 +1,4 @@
--- `wire::path_mtu::PathMtuNotification::decode` meets its contract. Assumes nothing.
+-- `wire::path_mtu::PathMtuNotification::decode` meets its contract.
 use borrow.Author.Needs.{needs}
 use mathlib.Core.Path.{sym, ap, _∙_}
 use Prim.Native.Nat.{ℕ}

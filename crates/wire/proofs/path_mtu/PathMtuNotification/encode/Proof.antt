@@ -1,4 +1,4 @@
--- `wire::path_mtu::PathMtuNotification::encode` meets its contract. Assumes nothing.
+-- `wire::path_mtu::PathMtuNotification::encode` meets its contract.
 use borrow.Author.Needs.{needs}
 use native.Mathlib.Omega.{arith}
 use mathlib.Core.Path.{_∙_}

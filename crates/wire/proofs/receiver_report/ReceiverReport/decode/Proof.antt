@@ -1,4 +1,4 @@
--- `wire::receiver_report::ReceiverReport::decode` meets its contract. Assumes nothing.
+-- `wire::receiver_report::ReceiverReport::decode` meets its contract.
 use borrow.Author.Needs.{needs}
 use mathlib.Core.Path.{sym, ap, _∙_}
 use lib.ListN.{length}

@@ -1,4 +1,4 @@
--- `wire::receiver_report::ReceiverReport::encode` meets its contract. Assumes nothing.
+-- `wire::receiver_report::ReceiverReport::encode` meets its contract.
 use borrow.Author.Needs.{needs}
 use mathlib.Core.Path.{_∙_}
 use Rattle.codec.specs.LittleEndian.{leBytes}

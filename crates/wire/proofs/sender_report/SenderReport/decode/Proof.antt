@@ -1,4 +1,4 @@
--- `wire::sender_report::SenderReport::decode` meets its contract. Assumes nothing.
+-- `wire::sender_report::SenderReport::decode` meets its contract.
 use borrow.Author.Needs.{needs}
 use mathlib.Core.Path.{sym, ap, _∙_}
 use lib.ListN.{length}

@@ -1,4 +1,4 @@
--- `wire::sender_report::SenderReport::encode` meets its contract. Assumes nothing.
+-- `wire::sender_report::SenderReport::encode` meets its contract.
 use borrow.Author.Needs.{needs}
 use mathlib.Core.Path.{_∙_}
 use Rattle.codec.specs.LittleEndian.{leBytes}
