@@ -88,7 +88,7 @@ unfolding gapCounted finishedBursts
 gap-counted-kept t gap k room = go (t .«in_burst») refl
   where
     go : (b : Bool) → t .«in_burst» ≡ b
-        → Kept (cond b (burst t (t .«in_burst») (min (t .«current_burst_len» + gapLength gap) maxLength) (t .«burst_count»)) (burst t true (gapLength gap) (min (t .«burst_count» + 1) 4294967295)))
+        → Kept (cond b (burst t (t .«in_burst») (min (t .«current_burst_len» + gapLength gap) maxLength) (t .«burst_count»)) (burst t true (gapLength gap) (min (t .«burst_count» + 1) (2 ^ 32 - 1))))
     go true e = record { outside = λ z. absurd (true≢false (sym e ∙ z)); inside = k .inside; total = k .total }
     go false e =
         let r = room e in
@@ -134,7 +134,7 @@ gap-counted-fits : (t : GapTracker) (gap : ℕ) → Fits (gapCounted t gap)
 unfolding gapCounted
 gap-counted-fits t gap = go (t .«in_burst»)
   where
-    go : (b : Bool) → Fits (cond b (burst t (t .«in_burst») (min (t .«current_burst_len» + gapLength gap) maxLength) (t .«burst_count»)) (burst t true (gapLength gap) (min (t .«burst_count» + 1) 4294967295)))
+    go : (b : Bool) → Fits (cond b (burst t (t .«in_burst») (min (t .«current_burst_len» + gapLength gap) maxLength) (t .«burst_count»)) (burst t true (gapLength gap) (min (t .«burst_count» + 1) (2 ^ 32 - 1))))
     go true = omega arith
     go false = omega arith
 

@@ -1,0 +1,26 @@
+-- The tuning constants of limits.rs that definitions cite, by the Rust's names. Definitions only.
+use Prim.Native.Nat.{ℕ}
+
+-- ---- intervals between reports, in ms
+abbrev pub defaultColdStartInterval : ℕ
+defaultColdStartInterval = 200
+
+abbrev pub minReportInterval : ℕ
+minReportInterval = 1000
+
+abbrev pub maxReportInterval : ℕ
+maxReportInterval = 5000
+
+-- the updates before the floor rises
+abbrev pub coldStartSamples : ℕ
+coldStartSamples = 5
+
+-- ---- the capacity of a delay window
+abbrev pub defaultOwdWindowSize : ℕ
+defaultOwdWindowSize = 32
+
+abbrev pub minOwdWindowSize : ℕ
+minOwdWindowSize = 2
+
+abbrev pub maxOwdWindowSize : ℕ
+maxOwdWindowSize = 4096
