@@ -22,10 +22,12 @@ use Rattle.algorithms.specs.OwdTrend.{trendOf}
 use Rattle.algorithms.proofs.JitterKeepsRule.{scaled-at-most}
 use Rattle.algorithms.specs.declared.jitter.JitterEstimator.{JitterEstimator}
 use Rattle.samples.specs.Transit.{inGrace, transit, jitterAfter}
-use Rattle.receiver.specs.State.{startedAt, fresh, newRefusal, newOf, rekeyed, rekeyOf}
-use Rattle.receiver.specs.Frames.{counted, measured, unmeasured, pushes, taken, frameOf}
+use Rattle.pace.specs.Updates.{coldStartRefusal, fromSrtt, withBounds}
+use Rattle.pace.specs.declared.Paced.{Paced}
+use Rattle.receiver.specs.State.{keepsRule, startedAt, fresh, newOf, rekeyed, rekeyOf}
+use Rattle.receiver.specs.Frames.{counted, timingSampled, echoIfSampled, pushes, withSample, frameOf}
 use Rattle.receiver.specs.Reports.{built, someBuilt, noneBuilt, reportOf, reportRefusal, builtOf}
-use Rattle.receiver.specs.Pacing.{paced, countedPace, fromSrttOf, withBoundsOf}
+use Rattle.receiver.specs.Pacing.{withPace, fromSrttOf, withBoundsOf}
 use Rattle.receiver.specs.declared.ReceiverState.{ReceiverState}
 use Rattle.receiver.proofs.QuestionsAnswered.{kept, report-asked}
 use Rattle.wire.specs.declared.receiver_report.ReceiverReport.{ReceiverReport}
@@ -76,7 +78,7 @@ pub new-tied : (k : ReceiverNew) → Tied (soundsOf []) (newReceiver k)
 unfolding newOf exact.differences exact.lastAfter exact.graceAfter
 new-tied (ReceiverNew.new window) = started-tied window 200
 new-tied ReceiverNew.default = started-tied 32 200
-new-tied (ReceiverNew.«new_with_cold_start» window ms) = go (eqb (newRefusal ms) 0)
+new-tied (ReceiverNew.«new_with_cold_start» window ms) = go (eqb (coldStartRefusal ms) 0)
   where
     go : (b : Bool) → Tied silence (cond b (startedAt window ms) fresh)
     go true = started-tied window ms
@@ -101,8 +103,8 @@ unfolding counted
 counted-tied y s counter bytes ce h = record { jitter = h .jitter; last = h .last; grace = h .grace }
 
 sampled-tied : (y : Sounds) (s : ReceiverState) (timestamp now : ℕ) → Tied y s →
-    Tied (after (exact.sampled timestamp now) y) (taken s timestamp now true)
-unfolding taken pushes measured unmeasured exact.differencesBy exact.lastBy exact.graceBy
+    Tied (after (exact.sampled timestamp now) y) (withSample s timestamp now true)
+unfolding withSample pushes timingSampled echoIfSampled exact.differencesBy exact.lastBy exact.graceBy
 sampled-tied y s timestamp now h =
     rw (← h .grace, ← h .last, grace-agrees (s .«rekey_jitter_grace_until_ms») now) (go (inGrace (s .«rekey_jitter_grace_until_ms») now))
   where
@@ -113,14 +115,14 @@ sampled-tied y s timestamp now h =
           last = exact.frame now timestamp;
           grace = cond b (graceIn (s .«rekey_jitter_grace_until_ms»)) exact.no-grace;
         })
-        (cond (not b) (measured s timestamp now) (unmeasured s timestamp now true))
+        (cond (not b) (timingSampled s timestamp now) (echoIfSampled s timestamp now true))
     go true = record { jitter = h .jitter; last = refl; grace = refl }
     go false = record { jitter = step-tied (s .«last_recv_ms») (s .«last_sender_timestamp») timestamp now (s .jitter) (y .differences) (h .jitter); last = refl; grace = refl }
 
 -- frameOf behind its questions
 frame-tied : (y : Sounds) (s : ReceiverState) (f : Frame) (sampled : Bool) → framing f sampled s .refusal ≡ 0 → Tied y s →
     Tied (after (exact.heard (ReceiverCall.«record_frame» f sampled)) y) (framing f sampled s .state)
-unfolding frameOf taken pushes unmeasured exact.differencesBy exact.lastBy exact.graceBy
+unfolding frameOf withSample pushes echoIfSampled exact.differencesBy exact.lastBy exact.graceBy
 frame-tied y s f true e h =
     rw e (sampled-tied y (counted s (f .counter) (f .bytes) (f .ce)) (f .timestamp) (f .now) (counted-tied y s (f .counter) (f .bytes) (f .ce) h))
 frame-tied y s f false e h = rw e (counted-tied y s (f .counter) (f .bytes) (f .ce) h)
@@ -142,9 +144,8 @@ report-tied y s times delays now h = go (eqb (reportRefusal s times delays now) 
     go true trend = built-tied y s trend now h
     go false trend = h
 
-paced-tied : (y : Sounds) (s : ReceiverState) (srtt : ℤ) (lo hi updates : ℕ) → Tied y s → Tied y (paced s srtt lo hi updates)
-unfolding paced
-paced-tied y s srtt lo hi updates h = record { jitter = h .jitter; last = h .last; grace = h .grace }
+paced-tied : (y : Sounds) (s : ReceiverState) (p : Paced) → Tied y s → Tied y (withPace s p .state)
+paced-tied y s p h = record { jitter = h .jitter; last = h .last; grace = h .grace }
 
 rekeyed-tied : (y : Sounds) (s : ReceiverState) (now : ℕ) → Tied (after (exact.rekeyed now) y) (rekeyed s (now + 15000))
 unfolding rekeyed exact.differencesBy exact.lastBy exact.graceBy
@@ -152,13 +153,13 @@ rekeyed-tied y s now = record { jitter = refl; last = refl; grace = refl }
 
 -- every accepted call
 pub tied-next : (c : ReceiverCall) (l : List ReceiverCall) (s : ReceiverState) → receiverStep c s .refusal ≡ 0 → Tied (soundsOf l) s → Tied (soundsOf (c ∷ l)) (receiverStep c s .state)
-unfolding receiverStep rekeyOf fromSrttOf countedPace withBoundsOf exact.differences exact.lastAfter exact.graceAfter exact.differencesBy exact.lastBy exact.graceBy
+unfolding receiverStep rekeyOf fromSrttOf withBoundsOf exact.differences exact.lastAfter exact.graceAfter exact.differencesBy exact.lastBy exact.graceBy
 tied-next (ReceiverCall.«record_frame» f sampled) l s e h = frame-tied (soundsOf l) s f sampled e h
 tied-next (ReceiverCall.«record_recv» f) l s e h = frame-tied (soundsOf l) s f true e h
 tied-next (ReceiverCall.«reset_for_rekey» now) l s e h = rw e (rekeyed-tied (soundsOf l) s now)
 tied-next (ReceiverCall.«build_report» times delays now) l s e h = report-tied (soundsOf l) s times delays now h
-tied-next (ReceiverCall.«update_report_interval_from_srtt» srtt) l s e h = rw e (paced-tied (soundsOf l) s srtt _ _ _ h)
-tied-next (ReceiverCall.«update_report_interval_with_bounds» srtt lo hi) l s e h = rw e (paced-tied (soundsOf l) s srtt lo hi _ h)
+tied-next (ReceiverCall.«update_report_interval_from_srtt» srtt) l s e h = paced-tied (soundsOf l) s (fromSrtt (keepsRule s) 1 (s .«report_interval_ms») (s .«srtt_sample_count») srtt) h
+tied-next (ReceiverCall.«update_report_interval_with_bounds» srtt lo hi) l s e h = paced-tied (soundsOf l) s (withBounds (keepsRule s) 1 (s .«report_interval_ms») (s .«srtt_sample_count») srtt lo hi) h
 tied-next (ReceiverCall.ask q) l s e h = h
 
 -- ---- a report

@@ -17,11 +17,13 @@ use Rattle.refusals.specs.Ranges.{maxClock, clockOk, frameSizeOk, delayOk, smoo
 use Rattle.algorithms.specs.Owd as owds
 use Rattle.algorithms.specs.Owd.{windowsOk, samplesOk, pairs, window}
 use Rattle.algorithms.specs.declared.owd.OwdTrendDetector.{OwdTrendDetector}
+use Rattle.pace.specs.Updates as pace
+use Rattle.pace.specs.Updates.{coldStartRefusal, fromSrttRefusal, fromSrtt, withBoundsRefusal, withBounds}
 use Rattle.samples.proofs.SampleKeepsRule.{pushed-keeps-capacity}
-use Rattle.receiver.specs.State.{keepsRule, refusalOf, clockRefusal, updated, startedAt, fresh, newRefusal, newOf, rekeyed, rekeyOf}
-use Rattle.receiver.specs.Frames.{counted, countersOk, measured, unmeasured, pushes, taken, sampleOk, frameRefusal, frameOf}
+use Rattle.receiver.specs.State.{keepsRule, refusalOf, clockRefusal, updated, startedAt, fresh, newOf, rekeyed, rekeyOf}
+use Rattle.receiver.specs.Frames.{counted, countersOk, timingSampled, echoIfSampled, pushes, withSample, sampleOk, frameRefusal, frameOf}
 use Rattle.receiver.specs.Reports.{someBuilt, noneBuilt, built, reportRefusal, builtOf}
-use Rattle.receiver.specs.Pacing.{paced, countedPace, fromSrttRefusal, fromSrttOf, withBoundsRefusal, withBoundsOf, shouldSendOf}
+use Rattle.receiver.specs.Pacing.{fromSrttOf, withBoundsOf, shouldSendOf}
 use Rattle.receiver.specs.declared.ReceiverState.{ReceiverState}
 use Rattle.receiver.proofs.RuleKept.{report-refusal}
 use Rattle.receiver.proofs.FrameAsked.{sample-in-range}
@@ -34,11 +36,11 @@ use Rattle.history.proofs.Asked.{yesTo, one, not-one, others, served, c
 abbrev capacityIn : ReceiverState → ℕ
 capacityIn s = s .«owd_trend» .capacity
 
-taken-capacity : (s : ReceiverState) (timestamp now : ℕ) (sampled : Bool) → capacityIn (taken s timestamp now sampled) ≡ capacityIn s
-unfolding taken measured unmeasured
-taken-capacity s timestamp now sampled = go (pushes s now sampled) sampled
+sample-capacity : (s : ReceiverState) (timestamp now : ℕ) (sampled : Bool) → capacityIn (withSample s timestamp now sampled) ≡ capacityIn s
+unfolding withSample timingSampled echoIfSampled
+sample-capacity s timestamp now sampled = go (pushes s now sampled) sampled
   where
-    go : (b c : Bool) → capacityIn (cond b (measured s timestamp now) (unmeasured s timestamp now c)) ≡ capacityIn s
+    go : (b c : Bool) → capacityIn (cond b (timingSampled s timestamp now) (echoIfSampled s timestamp now c)) ≡ capacityIn s
     go true c = pushed-keeps-capacity (s .«owd_trend») (s .«owd_ref») now
     go false true = refl
     go false false = refl
@@ -54,7 +56,7 @@ frame-capacity : (s : ReceiverState) (f : Frame) (sampled : Bool) → capacityIn
 unfolding frameOf counted
 frame-capacity s f sampled =
     updated-capacity (frameRefusal s (f .times) (f .delays) (f .counter) (f .timestamp) (f .bytes) (f .now) sampled) s _
-    (taken-capacity (counted s (f .counter) (f .bytes) (f .ce)) (f .timestamp) (f .now) sampled)
+    (sample-capacity (counted s (f .counter) (f .bytes) (f .ce)) (f .timestamp) (f .now) sampled)
 
 report-capacity : (s : ReceiverState) (times : List ℕ) (ds : List ℤ) (now : ℕ) → capacityIn (builtOf s times ds now .state) ≡ capacityIn s
 unfolding builtOf built
@@ -70,17 +72,17 @@ unfolding rekeyed
 rekeyed-capacity s deadline = refl
 
 pub capacity-next : (c : ReceiverCall) (s : ReceiverState) → capacityIn (receiverStep c s .state) ≡ capacityIn s
-unfolding receiverStep rekeyOf fromSrttOf countedPace withBoundsOf paced
+unfolding receiverStep rekeyOf fromSrttOf withBoundsOf
 capacity-next (ReceiverCall.«record_frame» f sampled) s = frame-capacity s f sampled
 capacity-next (ReceiverCall.«record_recv» f) s = frame-capacity s f true
 capacity-next (ReceiverCall.«reset_for_rekey» now) s = updated-capacity (clockRefusal s now) s _ (rekeyed-capacity s _)
 capacity-next (ReceiverCall.«build_report» times ds now) s = report-capacity s times ds now
-capacity-next (ReceiverCall.«update_report_interval_from_srtt» srtt) s = updated-capacity (fromSrttRefusal s srtt) s _ refl
-capacity-next (ReceiverCall.«update_report_interval_with_bounds» srtt lo hi) s = updated-capacity (withBoundsRefusal s srtt lo hi) s _ refl
+capacity-next (ReceiverCall.«update_report_interval_from_srtt» srtt) s = refl
+capacity-next (ReceiverCall.«update_report_interval_with_bounds» srtt lo hi) s = refl
 capacity-next (ReceiverCall.ask q) s = refl
 
 pub new-capacity : (k : ReceiverNew) → capacityIn (newReceiver k) ≡ paper.capacityOf k
-unfolding newOf newRefusal firstNo owds.newOf
+unfolding newOf coldStartRefusal firstNo owds.newOf
 new-capacity (ReceiverNew.new window) = refl
 new-capacity ReceiverNew.default = refl
 new-capacity (ReceiverNew.«new_with_cold_start» window ms) = go (paper.clock ms) refl
@@ -169,7 +171,7 @@ asks (ReceiverCall.ask q) s = clockOf q
 
 module _ (s : ReceiverState) (rule : keepsRule s ≡ true) where
   refusal : (c : ReceiverCall) → receiverStep c s .refusal ≡ firstNo (asks c s)
-  unfolding receiverStep frameOf frameRefusal reportRefusal rekeyOf clockRefusal fromSrttOf fromSrttRefusal withBoundsOf withBoundsRefusal
+  unfolding receiverStep frameOf frameRefusal reportRefusal rekeyOf clockRefusal fromSrttOf fromSrtt fromSrttRefusal withBoundsOf withBounds withBoundsRefusal pace.updated
   refusal (ReceiverCall.«record_frame» f sampled) = refl
   refusal (ReceiverCall.«record_recv» f) = refl
   refusal (ReceiverCall.«reset_for_rekey» now) = refl

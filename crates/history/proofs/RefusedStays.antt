@@ -11,6 +11,7 @@ use borrow.Author.Tests.{eqb-true}
 use Rattle.wire.specs.declared.receiver_report.ReceiverReport.{ReceiverReport}
 use Rattle.algorithms.specs.Owd.{window}
 use Rattle.algorithms.specs.OwdTrend.{trendOf}
+use Rattle.pace.specs.Updates.{updated, fromSrtt, withBounds}
 use Rattle.sender.specs.Sent as sent
 use Rattle.sender.specs.Backoff as backoff
 use Rattle.sender.specs.Pacing as sender-pacing
@@ -50,14 +51,18 @@ sender-report-stays s now ne =
     ap (λ (r : SenderReportBuilt). r .state)
     (refused (sender.reportRefusal s now) (sender.built s now) (sender.noneBuilt (sender.reportRefusal s now) s) (λ e. ne (sender-rule.report-refusal s now ∙ e)))
 
+sender-pace-stays : (s : SenderState) (n interval count : ℕ) → n ≢ 0
+    → sender-pacing.withPace s (record { refusal = n; «report_interval_ms» = cond (eqb n 0) interval (s .«report_interval_ms»); «srtt_sample_count» = cond (eqb n 0) count (s .«srtt_sample_count») }) .state ≡ s
+sender-pace-stays s n interval count ne = rw (refused n interval (s .«report_interval_ms») ne, refused n count (s .«srtt_sample_count») ne)
+
 pub sender-stays : (c : SenderCall) (s : SenderState) → senderStep c s .refusal ≢ 0 → senderStep c s .state ≡ s
-unfolding senderStep sent.sentOf backoff.failureOf backoff.successOf sender-pacing.fromSrttOf sender-pacing.withBoundsOf
+unfolding senderStep sent.sentOf backoff.failureOf backoff.successOf sender-pacing.fromSrttOf sender-pacing.withBoundsOf fromSrtt withBounds updated
 sender-stays (SenderCall.«record_sent» counter timestamp bytes) s ne = refused _ _ s ne
 sender-stays (SenderCall.«build_report» now) s ne = sender-report-stays s now ne
 sender-stays SenderCall.«record_send_failure» s ne = refused _ _ s ne
 sender-stays SenderCall.«record_send_success» s ne = refused _ _ s ne
-sender-stays (SenderCall.«update_report_interval_from_srtt» srtt) s ne = refused _ _ s ne
-sender-stays (SenderCall.«update_report_interval_with_bounds» srtt lo hi) s ne = refused _ _ s ne
+sender-stays (SenderCall.«update_report_interval_from_srtt» srtt) s ne = sender-pace-stays s _ _ _ ne
+sender-stays (SenderCall.«update_report_interval_with_bounds» srtt lo hi) s ne = sender-pace-stays s _ _ _ ne
 sender-stays (SenderCall.ask q) s ne = refl
 
 -- ---- receiver
@@ -68,14 +73,18 @@ receiver-report-stays s times delays now ne =
     ap (λ (r : ReceiverReportBuilt). r .state)
     (refused n (receiver.built s (trendOf (window (s .«owd_trend») times delays)) now) (receiver.noneBuilt n s) (λ e. ne (receiver-rule.report-refusal s times delays now ∙ e)))
 
+receiver-pace-stays : (s : ReceiverState) (n interval count : ℕ) → n ≢ 0
+    → receiver-pacing.withPace s (record { refusal = n; «report_interval_ms» = cond (eqb n 0) interval (s .«report_interval_ms»); «srtt_sample_count» = cond (eqb n 0) count (s .«srtt_sample_count») }) .state ≡ s
+receiver-pace-stays s n interval count ne = rw (refused n interval (s .«report_interval_ms») ne, refused n count (s .«srtt_sample_count») ne)
+
 pub receiver-stays : (c : ReceiverCall) (s : ReceiverState) → receiverStep c s .refusal ≢ 0 → receiverStep c s .state ≡ s
-unfolding receiverStep frames.frameOf receiver-state.rekeyOf receiver-pacing.fromSrttOf receiver-pacing.withBoundsOf
+unfolding receiverStep frames.frameOf receiver-state.rekeyOf receiver-pacing.fromSrttOf receiver-pacing.withBoundsOf fromSrtt withBounds updated
 receiver-stays (ReceiverCall.«record_frame» f sampled) s ne = refused _ _ s ne
 receiver-stays (ReceiverCall.«record_recv» f) s ne = refused _ _ s ne
 receiver-stays (ReceiverCall.«reset_for_rekey» now) s ne = refused _ _ s ne
 receiver-stays (ReceiverCall.«build_report» times delays now) s ne = receiver-report-stays s times delays now ne
-receiver-stays (ReceiverCall.«update_report_interval_from_srtt» srtt) s ne = refused _ _ s ne
-receiver-stays (ReceiverCall.«update_report_interval_with_bounds» srtt lo hi) s ne = refused _ _ s ne
+receiver-stays (ReceiverCall.«update_report_interval_from_srtt» srtt) s ne = receiver-pace-stays s _ _ _ ne
+receiver-stays (ReceiverCall.«update_report_interval_with_bounds» srtt lo hi) s ne = receiver-pace-stays s _ _ _ ne
 receiver-stays (ReceiverCall.ask q) s ne = refl
 
 -- ---- metrics

@@ -7,6 +7,7 @@ use Rattle.refusals.specs.Questions.{firstNo}
 use Rattle.sender.specs.State as senders
 use Rattle.sender.specs.declared.SenderState.{SenderState}
 use Rattle.sender.proofs.RuleKept as sender
+use Rattle.pace.specs.Updates as pace
 use Rattle.receiver.specs.State as receivers
 use Rattle.receiver.specs.declared.ReceiverState.{ReceiverState}
 use Rattle.receiver.proofs.RuleKept as receiver
@@ -39,10 +40,10 @@ sender-next (SenderCall.ask q) s e h = h
 -- ---- receiver
 pub record Receiving (s : ReceiverState) : Type 0 where
   pub rule : receivers.keepsRule s ≡ true
-  pub burst : receivers.Fits s
+  pub burst : bursts.Fits s
 
 pub new-receiver : (k : ReceiverNew) → Receiving (newReceiver k)
-unfolding receivers.newOf receivers.newRefusal firstNo
+unfolding receivers.newOf pace.coldStartRefusal firstNo
 new-receiver (ReceiverNew.new window) = record { rule = receiver.new-keeps-rule window 200; burst = omega arith }
 new-receiver ReceiverNew.default = record { rule = receiver.fresh-keeps-rule; burst = omega arith }
 new-receiver (ReceiverNew.«new_with_cold_start» window ms) = record { rule = receiver.new-keeps-rule window ms; burst = bursts.new-fits window ms }

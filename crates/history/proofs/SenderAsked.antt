@@ -10,10 +10,11 @@ use Rattle.sender.specs.State.{keepsRule, refusalOf}
 use Rattle.sender.specs.Sent.{countersOk, sentRefusal, sentOf}
 use Rattle.sender.specs.Backoff.{failureRefusal, failureOf, successOf}
 use Rattle.sender.specs.Reports.{reportRefusal, builtOf}
-use Rattle.sender.specs.Pacing.{fromSrttRefusal, fromSrttOf, withBoundsRefusal, withBoundsOf}
+use Rattle.pace.specs.Updates as pace
+use Rattle.pace.specs.Updates.{fromSrttRefusal, fromSrtt, withBoundsRefusal, withBounds}
+use Rattle.sender.specs.Pacing.{fromSrttOf, withBoundsOf, shouldSendOf}
 use Rattle.sender.specs.declared.SenderState.{SenderState}
 use Rattle.sender.proofs.RuleKept.{report-refusal}
-use Rattle.sender.specs.Reports.{shouldSendOf}
 use Rattle.history.specs.SenderCalls.{SenderQuestion, senderTold, SenderCall, senderStep}
 use Rattle.history.specs.Asked as paper
 use Rattle.history.specs.Asked.{Served}
@@ -52,7 +53,7 @@ asks (SenderCall.ask q) s = clockOf q
 
 module _ (s : SenderState) (rule : keepsRule s ≡ true) where
   refusal : (c : SenderCall) → senderStep c s .refusal ≡ firstNo (asks c s)
-  unfolding senderStep sentOf sentRefusal reportRefusal failureOf failureRefusal successOf refusalOf fromSrttOf fromSrttRefusal withBoundsOf withBoundsRefusal
+  unfolding senderStep sentOf sentRefusal reportRefusal failureOf failureRefusal successOf refusalOf fromSrttOf fromSrtt fromSrttRefusal withBoundsOf withBounds withBoundsRefusal pace.updated
   refusal (SenderCall.«record_sent» counter timestamp bytes) = refl
   refusal (SenderCall.«build_report» now) = report-refusal s now
   refusal SenderCall.«record_send_failure» = refl

@@ -3,9 +3,9 @@ use Prim.Native.Nat.{ℕ}
 use lib.IntN.{ℤ}
 use Rattle.sender.specs.State.{keepsRule, fresh, newOf, packetsOf, bytesOf, intervalOf, failuresOf}
 use Rattle.sender.specs.Sent.{sentOf}
-use Rattle.sender.specs.Reports.{builtOf, shouldSendOf}
+use Rattle.sender.specs.Reports.{builtOf}
 use Rattle.sender.specs.Backoff.{failureOf, successOf, multiplierOf}
-use Rattle.sender.specs.Pacing.{fromSrttOf, withBoundsOf}
+use Rattle.sender.specs.Pacing.{fromSrttOf, withBoundsOf, shouldSendOf}
 use Rattle.sender.specs.declared.SenderState.{SenderState}
 use Rattle.sender.specs.declared.SenderUpdate.{SenderUpdate}
 use Rattle.history.specs.Run.{Step}

@@ -8,12 +8,18 @@ use lib.Dec.{eqb}
 use lib.IntN.{ℤ}
 use Rattle.algorithms.specs.Owd.{window}
 use Rattle.algorithms.specs.OwdTrend.{trendOf}
+use Rattle.pace.specs.Updates.{coldStartRefusal}
+use Rattle.gaps.proofs.RuleKept as gaps
 use Rattle.gaps.proofs.RuleKept.{observed-fits, stats-fit}
-use Rattle.receiver.specs.State.{Fits, grace, startedAt, fresh, newRefusal, newOf, clockRefusal, updated, rekeyed, rekeyOf}
-use Rattle.receiver.specs.Frames.{counted, measured, unmeasured, pushes, taken, frameRefusal, frameOf}
+use Rattle.receiver.specs.State.{grace, startedAt, fresh, newOf, clockRefusal, updated, rekeyed, rekeyOf}
+use Rattle.receiver.specs.Frames.{counted, timingSampled, echoIfSampled, pushes, withSample, frameRefusal, frameOf}
 use Rattle.receiver.specs.Reports.{someBuilt, noneBuilt, built, reportRefusal, builtOf}
-use Rattle.receiver.specs.Pacing.{paced, countedPace, fromSrttRefusal, fromSrttOf, withBoundsRefusal, withBoundsOf}
+use Rattle.receiver.specs.Pacing.{fromSrttOf, withBoundsOf}
 use Rattle.receiver.specs.declared.ReceiverState.{ReceiverState}
+
+-- what the type of the length of the burst under way keeps
+abbrev pub Fits : ReceiverState → Type 0
+Fits s = gaps.Fits (s .«gap_tracker»)
 
 updated-fits : (n : ℕ) (s t : ReceiverState) → Fits s → Fits t → Fits (updated n s t .state)
 updated-fits n s t hs ht = go (eqb n 0)
@@ -25,7 +31,7 @@ updated-fits n s t hs ht = go (eqb n 0)
 -- ---- a new record, a rekey
 pub new-fits : (window ms : ℕ) → Fits (newOf window ms .state)
 unfolding newOf
-new-fits window ms = go (eqb (newRefusal ms) 0)
+new-fits window ms = go (eqb (coldStartRefusal ms) 0)
   where
     go : (b : Bool) → Fits (cond b (startedAt window ms) fresh)
     go true = omega arith
@@ -36,11 +42,11 @@ unfolding rekeyOf rekeyed
 rekey-fits s now h = updated-fits (clockRefusal s now) s (rekeyed s (now + grace)) h (omega arith)
 
 -- ---- a frame, a report
-taken-fits : (s : ReceiverState) (timestamp now : ℕ) (sampled : Bool) → Fits s → Fits (taken s timestamp now sampled)
-unfolding taken measured unmeasured
-taken-fits s timestamp now sampled h = go (pushes s now sampled) sampled
+sample-fits : (s : ReceiverState) (timestamp now : ℕ) (sampled : Bool) → Fits s → Fits (withSample s timestamp now sampled)
+unfolding withSample timingSampled echoIfSampled
+sample-fits s timestamp now sampled h = go (pushes s now sampled) sampled
   where
-    go : (b c : Bool) → Fits (cond b (measured s timestamp now) (unmeasured s timestamp now c))
+    go : (b c : Bool) → Fits (cond b (timingSampled s timestamp now) (echoIfSampled s timestamp now c))
     go true c = h
     go false true = h
     go false false = h
@@ -49,8 +55,8 @@ pub frame-fits : (s : ReceiverState) (times : List ℕ) (delays : List ℤ) (cou
     → Fits (frameOf s times delays counter timestamp bytes ce now sampled .state)
 unfolding frameOf counted
 frame-fits s times delays counter timestamp bytes ce now sampled h =
-    updated-fits (frameRefusal s times delays counter timestamp bytes now sampled) s (taken (counted s counter bytes ce) timestamp now sampled) h
-    (taken-fits (counted s counter bytes ce) timestamp now sampled (observed-fits (s .«gap_tracker») counter h))
+    updated-fits (frameRefusal s times delays counter timestamp bytes now sampled) s (withSample (counted s counter bytes ce) timestamp now sampled) h
+    (sample-fits (counted s counter bytes ce) timestamp now sampled (observed-fits (s .«gap_tracker») counter h))
 
 pub report-fits : (s : ReceiverState) (times : List ℕ) (delays : List ℤ) (now : ℕ) → Fits s → Fits (builtOf s times delays now .state)
 unfolding builtOf built
@@ -63,9 +69,9 @@ report-fits s times delays now h = go (eqb (reportRefusal s times delays now) 0)
 
 -- ---- the interval
 pub from-srtt-fits : (s : ReceiverState) (srtt : ℤ) → Fits s → Fits (fromSrttOf s srtt .state)
-unfolding fromSrttOf countedPace paced
-from-srtt-fits s srtt h = updated-fits (fromSrttRefusal s srtt) s (countedPace s srtt) h h
+unfolding fromSrttOf
+from-srtt-fits s srtt h = h
 
 pub with-bounds-fits : (s : ReceiverState) (srtt : ℤ) (lo hi : ℕ) → Fits s → Fits (withBoundsOf s srtt lo hi .state)
-unfolding withBoundsOf paced
-with-bounds-fits s srtt lo hi h = updated-fits (withBoundsRefusal s srtt lo hi) s (paced s srtt lo hi (s .«srtt_sample_count»)) h h
+unfolding withBoundsOf
+with-bounds-fits s srtt lo hi h = h

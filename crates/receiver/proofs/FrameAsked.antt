@@ -18,7 +18,7 @@ use Rattle.samples.specs.Delay.{delayOf, windowFor}
 use Rattle.samples.proofs.DelayInRange.{delay-in-range}
 use Rattle.samples.proofs.SampleKeepsRule.{window-keeps-rule, window-keeps-capacity}
 use Rattle.receiver.specs.State.{keepsRule}
-use Rattle.receiver.specs.Frames.{Room, counted, countersOk, pushes, slotFor, takenTimes, takenDelays, sampleOk, frameRefusal}
+use Rattle.receiver.specs.Frames.{Room, counted, countersOk, pushes, slotFor, timesAfter, delaysAfter, sampleOk, frameRefusal}
 use Rattle.receiver.specs.declared.ReceiverState.{ReceiverState}
 use Rattle.receiver.proofs.QuestionsAnswered.{kept}
 
@@ -84,10 +84,10 @@ pushed-sample-accepted s times delays counter timestamp bytes now sampled h =
     (window-keeps-rule (s .«owd_trend») (s .«owd_ref») now (kept s (y .rule) .window), (rw (window-keeps-capacity (s .«owd_trend») (s .«owd_ref») now) (y .windows), (delay-in-range (s .«owd_ref») timestamp now, tt)))
 
 module _ (s : ReceiverState) (counter bytes : ℕ) (ce : Bool) (timestamp now : ℕ) (sampled : Bool) where
-  pub counted-times : (times : List ℕ) → takenTimes (counted s counter bytes ce) times timestamp now sampled ≡ takenTimes s times timestamp now sampled
-  unfolding takenTimes pushes slotFor counted
+  pub counted-times : (times : List ℕ) → timesAfter (counted s counter bytes ce) times timestamp now sampled ≡ timesAfter s times timestamp now sampled
+  unfolding timesAfter pushes slotFor counted
   counted-times times = refl
 
-  pub counted-delays : (delays : List ℤ) → takenDelays (counted s counter bytes ce) delays timestamp now sampled ≡ takenDelays s delays timestamp now sampled
-  unfolding takenDelays pushes slotFor counted
+  pub counted-delays : (delays : List ℤ) → delaysAfter (counted s counter bytes ce) delays timestamp now sampled ≡ delaysAfter s delays timestamp now sampled
+  unfolding delaysAfter pushes slotFor counted
   counted-delays delays = refl

@@ -1,79 +1,63 @@
 -- What the rule says by its clauses, and what a call that nothing refuses knows of its record and its arguments.
 -- Assumes nothing.
 use mathlib.Core.Path.{_≡_, refl}
-use mathlib.Core.Bool.{Bool, true, _&&_, and-eq-true-iff}
+use mathlib.Core.Bool.{Bool, true, _&&_}
 use mathlib.Core.List.{List, [], _∷_}
 use Prim.Native.Nat.{ℕ, _≤_}
 use lib.IntN.{ℤ}
 use lib.ListN.{length}
 use borrow.Author.Tests.{leb-true}
 use Rattle.refusals.specs.Questions.{question}
-use Rattle.refusals.specs.Ranges.{maxClock, clockOk, optionalClockOk, smoothedOk, boundsOk}
+use Rattle.refusals.specs.Ranges.{maxClock, clockOk, optionalClockOk}
 use Rattle.refusals.proofs.Clauses.{left, right}
 use Rattle.refusals.proofs.FirstNoFound.{each-yes}
 use Rattle.algorithms.specs.Jitter as jitters
 use Rattle.algorithms.specs.Owd as owds
 use Rattle.gaps.specs.Gaps as gaps
 use Rattle.samples.specs.Delay.{referenceOk}
-use Rattle.receiver.specs.State.{graceOk, reordersOk, keepsRule, Kept, newRefusal, clockRefusal}
+use Rattle.receiver.specs.State.{graceOk, reordersOk, keepsRule, clockRefusal}
 use Rattle.receiver.specs.Reports.{reportRefusal}
-use Rattle.receiver.specs.Pacing.{fromSrttRefusal, withBoundsRefusal}
 use Rattle.receiver.specs.declared.ReceiverState.{ReceiverState}
 
 -- ---- the rule
+-- the rule's clauses by name
+pub record Kept (s : ReceiverState) : Type 0 where
+  pub last-recv : optionalClockOk (s .«last_recv_ms») ≡ true
+  pub last-report : optionalClockOk (s .«last_report_ms») ≡ true
+  pub interval : clockOk (s .«report_interval_ms») ≡ true
+  pub deadline : graceOk (s .«rekey_jitter_grace_until_ms») ≡ true
+  pub jitter : jitters.keepsRule (s .jitter) ≡ true
+  pub window : owds.keepsRule (s .«owd_trend») ≡ true
+  pub reference : referenceOk (s .«owd_ref») ≡ true
+  pub tracker : gaps.keepsRule (s .«gap_tracker») ≡ true
+  pub reorders : reordersOk s ≡ true
+
+each-clause : (a b c d e f g h i : Bool) → (a && b && c && d && e && f && g && h && i) ≡ true
+    → (a ≡ true) × (b ≡ true) × (c ≡ true) × (d ≡ true) × (e ≡ true) × (f ≡ true) × (g ≡ true) × (h ≡ true) × (i ≡ true)
+each-clause a b c d e f g h i all =
+    let s = left (a && b && c && d && e && f && g && h) i all in
+    let t = left (a && b && c && d && e && f && g) h s in
+    let u = left (a && b && c && d && e && f) g t in
+    let v = left (a && b && c && d && e) f u in
+    let w = left (a && b && c && d) e v in
+    let x = left (a && b && c) d w in
+    let y = left (a && b) c x in
+    (left a b y, right a b y, right (a && b) c x, right (a && b && c) d w, right (a && b && c && d) e v, right (a && b && c && d && e) f u, right (a && b && c && d && e && f) g t, right (a && b && c && d && e && f && g) h s, right (a && b && c && d && e && f && g && h) i all)
+
 module _ (s : ReceiverState) where
-  abbrev upto-report : Bool
-  upto-report = optionalClockOk (s .«last_recv_ms») && optionalClockOk (s .«last_report_ms»)
-
-  abbrev upto-interval : Bool
-  upto-interval = upto-report && clockOk (s .«report_interval_ms»)
-
-  abbrev upto-deadline : Bool
-  upto-deadline = upto-interval && graceOk (s .«rekey_jitter_grace_until_ms»)
-
-  abbrev upto-jitter : Bool
-  upto-jitter = upto-deadline && jitters.keepsRule (s .jitter)
-
-  abbrev upto-window : Bool
-  upto-window = upto-jitter && owds.keepsRule (s .«owd_trend»)
-
-  abbrev upto-reference : Bool
-  upto-reference = upto-window && referenceOk (s .«owd_ref»)
-
-  abbrev upto-tracker : Bool
-  upto-tracker = upto-reference && gaps.keepsRule (s .«gap_tracker»)
-
   pub kept : keepsRule s ≡ true → Kept s
   unfolding keepsRule
   kept h =
-      let t = left upto-tracker (reordersOk s) h in
-      let r = left upto-reference (gaps.keepsRule (s .«gap_tracker»)) t in
-      let w = left upto-window (referenceOk (s .«owd_ref»)) r in
-      let j = left upto-jitter (owds.keepsRule (s .«owd_trend»)) w in
-      let d = left upto-deadline (jitters.keepsRule (s .jitter)) j in
-      let i = left upto-interval (graceOk (s .«rekey_jitter_grace_until_ms»)) d in
-      let p = left upto-report (clockOk (s .«report_interval_ms»)) i in
-      record {
-        last-recv = left (optionalClockOk (s .«last_recv_ms»)) (optionalClockOk (s .«last_report_ms»)) p;
-        last-report = right (optionalClockOk (s .«last_recv_ms»)) (optionalClockOk (s .«last_report_ms»)) p;
-        interval = right upto-report (clockOk (s .«report_interval_ms»)) i;
-        deadline = right upto-interval (graceOk (s .«rekey_jitter_grace_until_ms»)) d;
-        jitter = right upto-deadline (jitters.keepsRule (s .jitter)) j;
-        window = right upto-jitter (owds.keepsRule (s .«owd_trend»)) w;
-        reference = right upto-window (referenceOk (s .«owd_ref»)) r;
-        tracker = right upto-reference (gaps.keepsRule (s .«gap_tracker»)) t;
-        reorders = right upto-tracker (reordersOk s) h;
-      }
+      let y =
+      each-clause (optionalClockOk (s .«last_recv_ms»)) (optionalClockOk (s .«last_report_ms»)) (clockOk (s .«report_interval_ms»)) (graceOk (s .«rekey_jitter_grace_until_ms»)) (jitters.keepsRule (s .jitter))
+      (owds.keepsRule (s .«owd_trend»)) (referenceOk (s .«owd_ref»)) (gaps.keepsRule (s .«gap_tracker»)) (reordersOk s) h in
+      record { last-recv = y .0; last-report = y .1; interval = y .2; deadline = y .3; jitter = y .4; window = y .5; reference = y .6; tracker = y .7; reorders = y .8 }
 
   pub keeps : Kept s → keepsRule s ≡ true
   unfolding keepsRule
   keeps k = rw (k .last-recv, k .last-report, k .interval, k .deadline, k .jitter, k .window, k .reference, k .tracker, k .reorders)
 
 -- ---- the questions of each call
-pub new-asked : (ms : ℕ) → newRefusal ms ≡ 0 → clockOk ms ≡ true
-unfolding newRefusal
-new-asked ms h = each-yes (question 2 (clockOk ms) ∷ []) refl h .0
-
 -- the rule, and the clock in range
 pub clock-asked : (s : ReceiverState) (now : ℕ) → clockRefusal s now ≡ 0 → (keepsRule s ≡ true) × (now ≤ maxClock)
 unfolding clockRefusal
@@ -85,15 +69,3 @@ unfolding reportRefusal
 report-asked s times delays now h =
     let y = each-yes (question 1 (keepsRule s) ∷ question 2 (clockOk now) ∷ question 4 (owds.windowsOk (s .«owd_trend») (length times) (length delays)) ∷ question 5 (owds.samplesOk (owds.window (s .«owd_trend») times delays)) ∷ []) refl h in
     (y .0, y .1 .0)
-
-pub from-srtt-asked : (s : ReceiverState) (srtt : ℤ) → fromSrttRefusal s srtt ≡ 0 → keepsRule s ≡ true
-unfolding fromSrttRefusal
-from-srtt-asked s srtt h = each-yes (question 1 (keepsRule s) ∷ question 8 (smoothedOk srtt) ∷ []) refl h .0
-
--- bounds of the caller's: the rule, and both bounds in range
-pub with-bounds-asked : (s : ReceiverState) (srtt : ℤ) (lo hi : ℕ) → withBoundsRefusal s srtt lo hi ≡ 0 → (keepsRule s ≡ true) × (lo ≤ maxClock) × (hi ≤ maxClock)
-unfolding withBoundsRefusal
-with-bounds-asked s srtt lo hi h =
-    let y = each-yes (question 1 (keepsRule s) ∷ question 2 (clockOk lo && clockOk hi) ∷ question 8 (smoothedOk srtt) ∷ question 9 (boundsOk srtt lo hi) ∷ []) refl h in
-    let bounds = and-eq-true-iff (clockOk lo) (clockOk hi) .0 (y .1 .0) in
-    (y .0, leb-true lo maxClock (bounds .0), leb-true hi maxClock (bounds .1))

@@ -8,24 +8,32 @@ use native.Mathlib.Omega.{arith}
 use lib.Dec.{leb, ltb, eqb}
 use lib.IntN.{ℤ}
 use borrow.Author.Tests.{le-leb, eqb-true, leb-true}
-use Rattle.numbers.specs.Intervals.{top, updateCounted, nextInterval}
-use Rattle.numbers.specs.Signs.{asUnsigned}
-use Rattle.numbers.proofs.IntervalAtMost.{next-at-most, floor-at-most}
 use Rattle.refusals.specs.Ranges.{maxClock, clockOk}
+use Rattle.refusals.specs.declared.option.OptionU64.{OptionU64}
+use Rattle.pace.specs.Updates.{coldStartRefusal, updated, fromSrtt, withBounds}
+use Rattle.pace.specs.declared.Paced.{Paced}
+use Rattle.pace.proofs.QuestionsAnswered.{cold-start-asked, from-srtt-asked, with-bounds-asked}
+use Rattle.pace.proofs.IntervalAtMost.{from-srtt-in-range, with-bounds-in-range}
 use Rattle.algorithms.proofs.OwdRuleKept as windows
-use Rattle.algorithms.specs.Owd.{window}
+use Rattle.algorithms.specs.Jitter as jitters
+use Rattle.algorithms.specs.Owd as owds
+use Rattle.algorithms.specs.declared.jitter.JitterEstimator.{JitterEstimator}
+use Rattle.algorithms.specs.declared.owd.OwdTrendDetector.{OwdTrendDetector}
 use Rattle.algorithms.specs.OwdTrend.{trendOf}
 use Rattle.gaps.specs.Gaps.{burstsOk}
 use Rattle.gaps.proofs.RuleKept as trackers
+use Rattle.samples.specs.Delay.{referenceOk}
+use Rattle.samples.specs.declared.delay.OwdReference.{OwdReference}
 use Rattle.samples.proofs.SampleKeepsRule as samples
-use Rattle.receiver.specs.State.{grace, keepsRule, Fits, startedAt, fresh, newRefusal, newOf, rekeyed, rekeyOf}
-use Rattle.receiver.specs.Frames.{reordersAfter, counted, measured, unmeasured, pushes, taken, frameOf}
+use Rattle.receiver.specs.State.{grace, graceOk, keepsRule, startedAt, fresh, newOf, rekeyed, rekeyOf}
+use Rattle.receiver.specs.Frames.{reordersAfter, counted, withTiming, timingSampled, echoIfSampled, pushes, withSample, frameOf}
 use Rattle.receiver.specs.Reports.{someBuilt, noneBuilt, built, reportRefusal, builtOf}
-use Rattle.receiver.specs.Pacing.{withPace, paced, countedPace, fromSrttOf, withBoundsOf}
+use Rattle.receiver.specs.Pacing.{withPace, fromSrttOf, withBoundsOf}
 use Rattle.receiver.specs.declared.ReceiverState.{ReceiverState}
 use Rattle.receiver.specs.declared.reports.ReceiverReportBuilt.{ReceiverReportBuilt}
-use Rattle.receiver.proofs.QuestionsAnswered.{kept, keeps, new-asked, clock-asked, report-asked, from-srtt-asked, with-bounds-asked}
+use Rattle.receiver.proofs.QuestionsAnswered.{kept, keeps, clock-asked, report-asked}
 use Rattle.receiver.proofs.FrameAsked.{frame-asked}
+use Rattle.receiver.proofs.BurstLengthFits.{Fits}
 
 -- ---- a new record
 started-keeps-rule : (window ms : ℕ) → clockOk ms ≡ true → keepsRule (startedAt window ms) ≡ true
@@ -39,10 +47,10 @@ fresh-keeps-rule = started-keeps-rule 32 200 refl
 -- refused or not: a refused constructor gives the default
 pub new-keeps-rule : (window ms : ℕ) → keepsRule (newOf window ms .state) ≡ true
 unfolding newOf
-new-keeps-rule window ms = go (eqb (newRefusal ms) 0) refl
+new-keeps-rule window ms = go (eqb (coldStartRefusal ms) 0) refl
   where
-    go : (b : Bool) → eqb (newRefusal ms) 0 ≡ b → keepsRule (cond b (startedAt window ms) fresh) ≡ true
-    go true e = started-keeps-rule window ms (new-asked ms (eqb-true (newRefusal ms) 0 e))
+    go : (b : Bool) → eqb (coldStartRefusal ms) 0 ≡ b → keepsRule (cond b (startedAt window ms) fresh) ≡ true
+    go true e = started-keeps-rule window ms (cold-start-asked ms (eqb-true (coldStartRefusal ms) 0 e))
     go false e = fresh-keeps-rule
 
 -- ---- a rekey
@@ -79,48 +87,33 @@ module _ (s : ReceiverState) (rule : keepsRule s ≡ true) where
       late true h = le-leb (s .«cumulative_reorder_count» + 1) (s .«cumulative_packets_recv» + 1) (omega arith)
       late false h = le-leb (s .«cumulative_reorder_count») (s .«cumulative_packets_recv» + 1) (omega arith)
 
-  measure-keeps-rule : (timestamp now : ℕ) → clockOk now ≡ true → keepsRule (measured s timestamp now) ≡ true
-  unfolding measured
-  measure-keeps-rule timestamp now h =
+  -- the figures of a sample, moved or not
+  figures-keep-rule : (j : JitterEstimator) (w : OwdTrendDetector) (ref : OwdReference) (deadline : OptionU64) (timestamp now : ℕ) → jitters.keepsRule j ≡ true → owds.keepsRule w ≡ true
+      → referenceOk ref ≡ true → graceOk deadline ≡ true → clockOk now ≡ true → keepsRule (withTiming s j w ref deadline timestamp now) ≡ true
+  figures-keep-rule j w ref deadline timestamp now jitter window reference deadline-ok clock =
       let k = kept s rule in
-      keeps (measured s timestamp now)
-      (record {
-        last-recv = h;
-        last-report = k .last-report;
-        interval = k .interval;
-        deadline = refl;
-        jitter = samples.jitter-keeps-rule (s .jitter) (s .«last_recv_ms») (s .«last_sender_timestamp») timestamp now (k .jitter);
-        window = samples.pushed-keeps-rule (s .«owd_trend») (s .«owd_ref») now (k .window);
-        reference = samples.base-keeps-rule (s .«owd_ref») now timestamp (k .reference) h;
-        tracker = k .tracker;
-        reorders = k .reorders;
-      })
+      keeps (withTiming s j w ref deadline timestamp now)
+      (record { last-recv = clock; last-report = k .last-report; interval = k .interval; deadline = deadline-ok; jitter = jitter; window = window; reference = reference; tracker = k .tracker; reorders = k .reorders })
 
-  unmeasured-keeps-rule : (timestamp now : ℕ) (sampled : Bool) → clockOk now ≡ true → keepsRule (unmeasured s timestamp now sampled) ≡ true
-  unfolding unmeasured
-  unmeasured-keeps-rule timestamp now true h =
+  timing-keeps-rule : (timestamp now : ℕ) → clockOk now ≡ true → keepsRule (timingSampled s timestamp now) ≡ true
+  unfolding timingSampled
+  timing-keeps-rule timestamp now h =
       let k = kept s rule in
-      keeps (unmeasured s timestamp now true)
-      (record {
-        last-recv = h;
-        last-report = k .last-report;
-        interval = k .interval;
-        deadline = k .deadline;
-        jitter = k .jitter;
-        window = k .window;
-        reference = k .reference;
-        tracker = k .tracker;
-        reorders = k .reorders;
-      })
-  unmeasured-keeps-rule timestamp now false h = rule
+      figures-keep-rule _ _ _ _ timestamp now (samples.jitter-keeps-rule (s .jitter) (s .«last_recv_ms») (s .«last_sender_timestamp») timestamp now (k .jitter))
+      (samples.pushed-keeps-rule (s .«owd_trend») (s .«owd_ref») now (k .window)) (samples.base-keeps-rule (s .«owd_ref») now timestamp (k .reference) h) refl h
 
-  take-keeps-rule : (timestamp now : ℕ) (sampled : Bool) → clockOk now ≡ true → keepsRule (taken s timestamp now sampled) ≡ true
-  unfolding taken
-  take-keeps-rule timestamp now sampled h = go (pushes s now sampled)
+  echo-keeps-rule : (timestamp now : ℕ) (sampled : Bool) → clockOk now ≡ true → keepsRule (echoIfSampled s timestamp now sampled) ≡ true
+  unfolding echoIfSampled
+  echo-keeps-rule timestamp now true h = let k = kept s rule in figures-keep-rule _ _ _ _ timestamp now (k .jitter) (k .window) (k .reference) (k .deadline) h
+  echo-keeps-rule timestamp now false h = rule
+
+  sample-keeps-rule : (timestamp now : ℕ) (sampled : Bool) → clockOk now ≡ true → keepsRule (withSample s timestamp now sampled) ≡ true
+  unfolding withSample
+  sample-keeps-rule timestamp now sampled h = go (pushes s now sampled)
     where
-      go : (b : Bool) → keepsRule (cond b (measured s timestamp now) (unmeasured s timestamp now sampled)) ≡ true
-      go true = measure-keeps-rule timestamp now h
-      go false = unmeasured-keeps-rule timestamp now sampled h
+      go : (b : Bool) → keepsRule (cond b (timingSampled s timestamp now) (echoIfSampled s timestamp now sampled)) ≡ true
+      go true = timing-keeps-rule timestamp now h
+      go false = echo-keeps-rule timestamp now sampled h
 
 -- `record_recv` is the same with `sampled` true. That a burst's length is 16 bits is its type's
 pub frame-keeps-rule : (s : ReceiverState) (times : List ℕ) (delays : List ℤ) (counter timestamp bytes : ℕ) (ce : Bool) (now : ℕ) (sampled : Bool) → Fits s
@@ -129,7 +122,7 @@ pub frame-keeps-rule : (s : ReceiverState) (times : List ℕ) (delays : List ℤ
 unfolding frameOf
 frame-keeps-rule s times delays counter timestamp bytes ce now sampled f h =
     let y = frame-asked s times delays counter timestamp bytes now sampled h in
-    rw h (take-keeps-rule (counted s counter bytes ce) (count-keeps-rule s (y .rule) counter bytes ce f (y .bursts)) timestamp now sampled (y .clock))
+    rw h (sample-keeps-rule (counted s counter bytes ce) (count-keeps-rule s (y .rule) counter bytes ce f (y .bursts)) timestamp now sampled (y .clock))
 
 -- ---- a report
 module _ (P : ReceiverReportBuilt → Type 0) (s : ReceiverState) (trend : ℤ) (now : ℕ) where
@@ -164,8 +157,8 @@ pub report-refusal : (s : ReceiverState) (times : List ℕ) (delays : List ℤ) 
 unfolding builtOf
 report-refusal s times delays now = go (reportRefusal s times delays now) (eqb (reportRefusal s times delays now) 0) (eqb-true (reportRefusal s times delays now) 0)
   where
-    go : (n : ℕ) (b : Bool) → (b ≡ true → n ≡ 0) → cond b (built s (trendOf (window (s .«owd_trend») times delays)) now) (noneBuilt n s) .refusal ≡ n
-    go n true f = rw (f refl) (by-data (λ r. r .refusal ≡ 0) s (trendOf (window (s .«owd_trend») times delays)) now refl refl)
+    go : (n : ℕ) (b : Bool) → (b ≡ true → n ≡ 0) → cond b (built s (trendOf (owds.window (s .«owd_trend») times delays)) now) (noneBuilt n s) .refusal ≡ n
+    go n true f = rw (f refl) (by-data (λ r. r .refusal ≡ 0) s (trendOf (owds.window (s .«owd_trend») times delays)) now refl refl)
     go n false f = refl
 
 pub report-keeps-rule : (s : ReceiverState) (times : List ℕ) (delays : List ℤ) (now : ℕ) → Fits s → builtOf s times delays now .refusal ≡ 0
@@ -174,34 +167,25 @@ unfolding builtOf
 report-keeps-rule s times delays now f e =
     let h : reportRefusal s times delays now ≡ 0 = rw (report-refusal s times delays now) at e in
     let y = report-asked s times delays now h in
-    rw h (report-ends-within s (trendOf (window (s .«owd_trend») times delays)) now f (y .0) (y .1))
+    rw h (report-ends-within s (trendOf (owds.window (s .«owd_trend») times delays)) now f (y .0) (y .1))
 
 -- ---- the interval
-pace-keeps-rule : (s : ReceiverState) (srtt : ℤ) (lo hi updates : ℕ) → keepsRule s ≡ true → lo ≤ maxClock → hi ≤ maxClock → keepsRule (paced s srtt lo hi updates) ≡ true
-unfolding paced
-pace-keeps-rule s srtt lo hi updates h hl hh =
+pace-keeps-rule : (s : ReceiverState) (p : Paced) → keepsRule s ≡ true → clockOk (p .«report_interval_ms») ≡ true → keepsRule (withPace s p .state) ≡ true
+pace-keeps-rule s p h i =
     let k = kept s h in
-    let next = nextInterval (s .«report_interval_ms») (asUnsigned srtt) lo hi in
-    let now = leb-true (s .«report_interval_ms») maxClock (k .interval) in
-    keeps (withPace s next updates)
-    (record {
-      last-recv = k .last-recv;
-      last-report = k .last-report;
-      interval = le-leb next maxClock (next-at-most (s .«report_interval_ms») (asUnsigned srtt) lo hi maxClock now hl hh);
-      deadline = k .deadline;
-      jitter = k .jitter;
-      window = k .window;
-      reference = k .reference;
-      tracker = k .tracker;
-      reorders = k .reorders;
-    })
+    keeps (withPace s p .state)
+    (record { last-recv = k .last-recv; last-report = k .last-report; interval = i; deadline = k .deadline; jitter = k .jitter; window = k .window; reference = k .reference; tracker = k .tracker; reorders = k .reorders })
 
 pub from-srtt-keeps-rule : (s : ReceiverState) (srtt : ℤ) → fromSrttOf s srtt .refusal ≡ 0 → keepsRule (fromSrttOf s srtt .state) ≡ true
-unfolding fromSrttOf countedPace
-from-srtt-keeps-rule s srtt h = rw h (pace-keeps-rule s srtt _ top _ (from-srtt-asked s srtt h) (omega (arith, floor-at-most (updateCounted (s .«srtt_sample_count»)))) (omega arith))
+unfolding fromSrttOf fromSrtt updated
+from-srtt-keeps-rule s srtt h =
+    let rule = from-srtt-asked (keepsRule s) srtt h .0 in
+    pace-keeps-rule s (fromSrtt (keepsRule s) 1 (s .«report_interval_ms») (s .«srtt_sample_count») srtt) rule
+    (from-srtt-in-range (keepsRule s) 1 (s .«report_interval_ms») (s .«srtt_sample_count») srtt (kept s rule .interval))
 
 pub with-bounds-keeps-rule : (s : ReceiverState) (srtt : ℤ) (lo hi : ℕ) → withBoundsOf s srtt lo hi .refusal ≡ 0 → keepsRule (withBoundsOf s srtt lo hi .state) ≡ true
-unfolding withBoundsOf
+unfolding withBoundsOf withBounds updated
 with-bounds-keeps-rule s srtt lo hi h =
-    let y = with-bounds-asked s srtt lo hi h in
-    rw h (pace-keeps-rule s srtt lo hi (s .«srtt_sample_count») (y .0) (y .1) (y .2))
+    let rule = with-bounds-asked (keepsRule s) srtt lo hi h .rule in
+    pace-keeps-rule s (withBounds (keepsRule s) 1 (s .«report_interval_ms») (s .«srtt_sample_count») srtt lo hi) rule
+    (with-bounds-in-range (keepsRule s) 1 (s .«report_interval_ms») (s .«srtt_sample_count») srtt (kept s rule .interval) lo hi)

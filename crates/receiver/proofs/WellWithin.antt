@@ -28,12 +28,12 @@ use Rattle.receiver.specs.declared.ReceiverState.{ReceiverState}
 use Rattle.receiver.proofs.QuestionsAnswered.{keeps}
 
 -- ---- the clocks
--- 2^42 ms
-abbrev far : ℕ
-far = 4398046511104
+-- 2^42 ms: a clock below it is near
+abbrev nearClock : ℕ
+nearClock = 4398046511104
 
-near : (ms : ℕ) → ltb ms far ≡ true → clockOk ms ≡ true
-near ms h = let l = ltb-true ms far h in le-leb ms maxClock (omega (arith, l))
+near : (ms : ℕ) → ltb ms nearClock ≡ true → clockOk ms ≡ true
+near ms h = let l = ltb-true ms nearClock h in le-leb ms maxClock (omega (arith, l))
 
 -- a deadline in a clock's range
 deadline-near : (d : OptionU64) → optionalClockOk d ≡ true → graceOk d ≡ true
@@ -57,15 +57,15 @@ Clocks s now =
     × (clockOk now ≡ true)
 
 pub clocks-near : (s : ReceiverState) (now recv report deadline reference : ℕ) → Read s recv report deadline reference
-    → (ltb recv far && ltb report far && ltb (s .«report_interval_ms») far && ltb deadline far && ltb reference far && ltb now far) ≡ true
+    → (ltb recv nearClock && ltb report nearClock && ltb (s .«report_interval_ms») nearClock && ltb deadline nearClock && ltb reference nearClock && ltb now nearClock) ≡ true
     → Clocks s now
 clocks-near s now recv report deadline reference r h =
     let interval = s .«report_interval_ms» in
-    let n = both (ltb recv far && ltb report far && ltb interval far && ltb deadline far && ltb reference far) (ltb now far) h in
-    let f = both (ltb recv far && ltb report far && ltb interval far && ltb deadline far) (ltb reference far) (n .0) in
-    let d = both (ltb recv far && ltb report far && ltb interval far) (ltb deadline far) (f .0) in
-    let i = both (ltb recv far && ltb report far) (ltb interval far) (d .0) in
-    let p = both (ltb recv far) (ltb report far) (i .0) in (
+    let n = both (ltb recv nearClock && ltb report nearClock && ltb interval nearClock && ltb deadline nearClock && ltb reference nearClock) (ltb now nearClock) h in
+    let f = both (ltb recv nearClock && ltb report nearClock && ltb interval nearClock && ltb deadline nearClock) (ltb reference nearClock) (n .0) in
+    let d = both (ltb recv nearClock && ltb report nearClock && ltb interval nearClock) (ltb deadline nearClock) (f .0) in
+    let i = both (ltb recv nearClock && ltb report nearClock) (ltb interval nearClock) (d .0) in
+    let p = both (ltb recv nearClock) (ltb report nearClock) (i .0) in (
       sym (r .recv-read) ∙ near recv (p .0),
       sym (r .report-read) ∙ near report (p .1),
       near interval (i .1),
@@ -110,13 +110,13 @@ Counts s bytes =
     × (counterOk 64 (s .«cumulative_bytes_recv») bytes ≡ true)
     × (counterOk 32 (s .«gap_tracker» .«burst_count») 1 ≡ true)
 
--- 2^63
-abbrev half : ℕ
-half = 9223372036854775808
+-- 2^63: a count below it is low
+abbrev lowCount : ℕ
+lowCount = 9223372036854775808
 
 pub counts-low : (s : ReceiverState) (bytes : ℕ) → let t = s .«gap_tracker» in
     (not (t .«in_burst») && eqb (t .«current_burst_len») 0 && leb (t .«total_burst_len») (65535 * t .«burst_count») && ltb (t .«burst_count») 4294967295
-    && leb (s .«cumulative_reorder_count») (s .«cumulative_packets_recv») && ltb (s .«cumulative_packets_recv») half && ltb (s .«cumulative_bytes_recv») half && frameSizeOk bytes)
+    && leb (s .«cumulative_reorder_count») (s .«cumulative_packets_recv») && ltb (s .«cumulative_packets_recv») lowCount && ltb (s .«cumulative_bytes_recv») lowCount && frameSizeOk bytes)
     ≡ true
     → Counts s bytes
 counts-low s bytes h =
@@ -126,8 +126,8 @@ counts-low s bytes h =
     let total = leb (t .«total_burst_len») (65535 * t .«burst_count») in
     let some = ltb (t .«burst_count») 4294967295 in
     let late = reordersOk s in
-    let packets = ltb (s .«cumulative_packets_recv») half in
-    let sizes = ltb (s .«cumulative_bytes_recv») half in
+    let packets = ltb (s .«cumulative_packets_recv») lowCount in
+    let sizes = ltb (s .«cumulative_bytes_recv») lowCount in
     let z = both (out && len && total && some && late && packets && sizes) (frameSizeOk bytes) h in
     let y = both (out && len && total && some && late && packets) sizes (z .0) in
     let p = both (out && len && total && some && late) packets (y .0) in
@@ -136,8 +136,8 @@ counts-low s bytes h =
     let g = both (out && len) total (b .0) in
     let l = both out len (g .0) in
     let size = leb-true bytes maxFrame (z .1) in
-    let carried = ltb-true (s .«cumulative_bytes_recv») half (y .1) in
-    let came = ltb-true (s .«cumulative_packets_recv») half (p .1) in
+    let carried = ltb-true (s .«cumulative_bytes_recv») lowCount (y .1) in
+    let came = ltb-true (s .«cumulative_packets_recv») lowCount (p .1) in
     let bursts = ltb-true (t .«burst_count») 4294967295 (b .1) in (
       outside-burst t (not-true (t .«in_burst») (l .0)) (l .1) (g .1),
       r .1,

@@ -89,32 +89,32 @@ withTiming s jitter window ref deadline timestamp now =
     }
 
 -- a sample out of grace: jitter, trend, the reference that it was measured from, and no grace any more
-unfoldable pub measured : ReceiverState → ℕ → ℕ → ReceiverState
-measured s timestamp now =
+unfoldable pub timingSampled : ReceiverState → ℕ → ℕ → ReceiverState
+timingSampled s timestamp now =
     withTiming s (jitterAfter (s .jitter) (s .«last_recv_ms») (s .«last_sender_timestamp») timestamp now) (pushed (s .«owd_trend») (s .«owd_ref») now)
     (referenceAfter (s .«owd_ref») now timestamp) option.None timestamp now
 
 -- "updates neither jitter nor trend, but does update the echo"; a frame not sampled moves nothing
-unfoldable pub unmeasured : ReceiverState → ℕ → ℕ → Bool → ReceiverState
-unmeasured s timestamp now sampled = cond sampled (withTiming s (s .jitter) (s .«owd_trend») (s .«owd_ref») (s .«rekey_jitter_grace_until_ms») timestamp now) s
+unfoldable pub echoIfSampled : ReceiverState → ℕ → ℕ → Bool → ReceiverState
+echoIfSampled s timestamp now sampled = cond sampled (withTiming s (s .jitter) (s .«owd_trend») (s .«owd_ref») (s .«rekey_jitter_grace_until_ms») timestamp now) s
 
 -- the frame pushes a sample: it is sampled, and out of grace
 unfoldable pub pushes : ReceiverState → ℕ → Bool → Bool
 pushes s now sampled = sampled && not (inGrace (s .«rekey_jitter_grace_until_ms») now)
 
-unfoldable pub taken : ReceiverState → ℕ → ℕ → Bool → ReceiverState
-taken s timestamp now sampled = cond (pushes s now sampled) (measured s timestamp now) (unmeasured s timestamp now sampled)
+unfoldable pub withSample : ReceiverState → ℕ → ℕ → Bool → ReceiverState
+withSample s timestamp now sampled = cond (pushes s now sampled) (timingSampled s timestamp now) (echoIfSampled s timestamp now sampled)
 
 -- ---- the windows: one slot set by the frame that pushes a sample
 -- the free slot of the window, which a restart clears first
 unfoldable pub slotFor : ReceiverState → ℕ → ℕ
 slotFor s now = free (windowFor (s .«owd_trend») (s .«owd_ref») now)
 
-unfoldable pub takenTimes : ReceiverState → List ℕ → ℕ → ℕ → Bool → List ℕ
-takenTimes s times timestamp now sampled = cond (pushes s now sampled) (set times (slotFor s now) (ageOf (s .«owd_ref») timestamp now)) times
+unfoldable pub timesAfter : ReceiverState → List ℕ → ℕ → ℕ → Bool → List ℕ
+timesAfter s times timestamp now sampled = cond (pushes s now sampled) (set times (slotFor s now) (ageOf (s .«owd_ref») timestamp now)) times
 
-unfoldable pub takenDelays : ReceiverState → List ℤ → ℕ → ℕ → Bool → List ℤ
-takenDelays s delays timestamp now sampled = cond (pushes s now sampled) (set delays (slotFor s now) (delayOf (s .«owd_ref») timestamp now)) delays
+unfoldable pub delaysAfter : ReceiverState → List ℤ → ℕ → ℕ → Bool → List ℤ
+delaysAfter s delays timestamp now sampled = cond (pushes s now sampled) (set delays (slotFor s now) (delayOf (s .«owd_ref») timestamp now)) delays
 
 -- ---- the call
 -- document 01, question 5: the sample, where the frame pushes one
@@ -136,11 +136,11 @@ frameRefusal s times delays counter timestamp bytes now sampled =
 
 -- a frame of this counter, timestamp, size and mark, at this time, sampled or not: counted, then sampled
 unfoldable pub frameOf : ReceiverState → List ℕ → List ℤ → ℕ → ℕ → ℕ → Bool → ℕ → Bool → ReceiverUpdate
-frameOf s times delays counter timestamp bytes ce now sampled = updated (frameRefusal s times delays counter timestamp bytes now sampled) s (taken (counted s counter bytes ce) timestamp now sampled)
+frameOf s times delays counter timestamp bytes ce now sampled = updated (frameRefusal s times delays counter timestamp bytes now sampled) s (withSample (counted s counter bytes ce) timestamp now sampled)
 
 -- the windows after it: as they were beside a refusal
 unfoldable pub frameTimes : ReceiverState → List ℕ → List ℤ → ℕ → ℕ → ℕ → ℕ → Bool → List ℕ
-frameTimes s times delays counter timestamp bytes now sampled = cond (eqb (frameRefusal s times delays counter timestamp bytes now sampled) 0) (takenTimes s times timestamp now sampled) times
+frameTimes s times delays counter timestamp bytes now sampled = cond (eqb (frameRefusal s times delays counter timestamp bytes now sampled) 0) (timesAfter s times timestamp now sampled) times
 
 unfoldable pub frameDelays : ReceiverState → List ℕ → List ℤ → ℕ → ℕ → ℕ → ℕ → Bool → List ℤ
-frameDelays s times delays counter timestamp bytes now sampled = cond (eqb (frameRefusal s times delays counter timestamp bytes now sampled) 0) (takenDelays s delays timestamp now sampled) delays
+frameDelays s times delays counter timestamp bytes now sampled = cond (eqb (frameRefusal s times delays counter timestamp bytes now sampled) 0) (delaysAfter s delays timestamp now sampled) delays

@@ -1,5 +1,4 @@
 -- A receiver's record, its rule and its fields: document 01, the state rule, and receiver.rs. Definitions only.
-use mathlib.Core.Path.{_≡_}
 use mathlib.Core.Bool.{Bool, true, false, cond, _&&_}
 use mathlib.Core.List.{[], _∷_}
 use Prim.Native.Nat.{ℕ, _+_, _≤_}
@@ -14,6 +13,7 @@ use Rattle.refusals.specs.declared.option.OptionU64.{OptionU64}
 use Rattle.refusals.specs.declared.option.OptionU64.the-variants as option
 use Rattle.algorithms.specs.Jitter as jitters
 use Rattle.algorithms.specs.Owd as owds
+use Rattle.pace.specs.Updates.{coldStartRefusal}
 use Rattle.gaps.specs.Gaps as gaps
 use Rattle.samples.specs.Delay.{referenceOk}
 use Rattle.samples.specs.declared.delay.OwdReference.the-variants as reference
@@ -47,22 +47,6 @@ keepsRule s =
     && gaps.keepsRule (s .«gap_tracker»)
     && reordersOk s
 
--- the rule's clauses by name
-pub record Kept (s : ReceiverState) : Type 0 where
-  pub last-recv : optionalClockOk (s .«last_recv_ms») ≡ true
-  pub last-report : optionalClockOk (s .«last_report_ms») ≡ true
-  pub interval : clockOk (s .«report_interval_ms») ≡ true
-  pub deadline : graceOk (s .«rekey_jitter_grace_until_ms») ≡ true
-  pub jitter : jitters.keepsRule (s .jitter) ≡ true
-  pub window : owds.keepsRule (s .«owd_trend») ≡ true
-  pub reference : referenceOk (s .«owd_ref») ≡ true
-  pub tracker : gaps.keepsRule (s .«gap_tracker») ≡ true
-  pub reorders : reordersOk s ≡ true
-
--- what the type of the length of the burst under way keeps
-abbrev pub Fits : ReceiverState → Type 0
-Fits s = s .«gap_tracker» .«current_burst_len» ≤ gaps.maxLength
-
 -- ---- a new record
 -- nothing received, with a window and a first report interval
 abbrev pub startedAt : ℕ → ℕ → ReceiverState
@@ -92,13 +76,9 @@ startedAt window ms =
 abbrev pub fresh : ReceiverState
 fresh = startedAt 32 200
 
--- document 01, the checks: question 2 alone
-unfoldable pub newRefusal : ℕ → ℕ
-newRefusal ms = firstNo (question 2 (clockOk ms) ∷ [])
-
 -- a cold-start interval of the caller's; "A refused constructor, given no state, returns the default one"
 unfoldable pub newOf : ℕ → ℕ → ReceiverNew
-newOf window ms = record { refusal = newRefusal ms; state = cond (eqb (newRefusal ms) 0) (startedAt window ms) fresh }
+newOf window ms = record { refusal = coldStartRefusal ms; state = cond (eqb (coldStartRefusal ms) 0) (startedAt window ms) fresh }
 
 -- ---- calls
 -- document 01, the checks: question 1 alone

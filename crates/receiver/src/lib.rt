@@ -5,10 +5,12 @@ pub mod reports; // reports.rt: a report is built
 pub mod pacing; // pacing.rt: the report interval, and when a report is due
 
 ghost use mathlib.Core.Path.{_≡_};
+ghost use Rattle.refusals.specs.Answers.{answerU64};
 ghost use Rattle.receiver.specs.State.{graceOk, keepsRule, refusalOf, startedAt, fresh, newOf, rekeyed, rekeyOf, packetsOf, bytesOf, highestOf, jitterOf, intervalOf, lastRecvOf, ecnOf};
 use algorithms::jitter::JitterEstimator;
 use algorithms::owd::OwdTrendDetector;
 use gaps::GapTracker;
+use pace::cold_start_refusal;
 use refusals::answer::AnswerOptionU64;
 use refusals::answer::AnswerU32;
 use refusals::answer::AnswerU64;
@@ -135,9 +137,7 @@ impl ReceiverState {
     pub fn new_with_cold_start(owd_window_size: usize, cold_start_ms: u64) -> ReceiverNew
         ensures { λ r. ⌜ r ≡ newOf «owd_window_size» «cold_start_ms» ⌝ }
     {
-        let mut q = Questions::all_yes();
-        q.clocks = clock_ok(cold_start_ms);
-        let refusal = q.first_no();
+        let refusal = cold_start_refusal(cold_start_ms);
         if refusal == 0 {
             let state = ReceiverState::started(owd_window_size, cold_start_ms);
             ReceiverNew { refusal, state }
@@ -228,22 +228,28 @@ impl ReceiverState {
 
     // --- Accessors ---
 
+    fn answer_u64(self, value: u64) -> AnswerU64
+        ensures { λ r. ⌜ r ≡ answerU64 (refusalOf self) value ⌝ }
+    {
+        AnswerU64::of(self.refusal(), value)
+    }
+
     pub fn cumulative_packets_recv(self) -> AnswerU64
         ensures { λ r. ⌜ r ≡ packetsOf self ⌝ }
     {
-        AnswerU64::of(self.refusal(), self.cumulative_packets_recv)
+        self.answer_u64(self.cumulative_packets_recv)
     }
 
     pub fn cumulative_bytes_recv(self) -> AnswerU64
         ensures { λ r. ⌜ r ≡ bytesOf self ⌝ }
     {
-        AnswerU64::of(self.refusal(), self.cumulative_bytes_recv)
+        self.answer_u64(self.cumulative_bytes_recv)
     }
 
     pub fn highest_counter(self) -> AnswerU64
         ensures { λ r. ⌜ r ≡ highestOf self ⌝ }
     {
-        AnswerU64::of(self.refusal(), self.highest_counter)
+        self.answer_u64(self.highest_counter)
     }
 
     pub fn jitter_us(self) -> AnswerU32
@@ -256,7 +262,7 @@ impl ReceiverState {
     pub fn report_interval_ms(self) -> AnswerU64
         ensures { λ r. ⌜ r ≡ intervalOf self ⌝ }
     {
-        AnswerU64::of(self.refusal(), self.report_interval_ms)
+        self.answer_u64(self.report_interval_ms)
     }
 
     // When the most recent sampled frame came, if one did.

@@ -1,7 +1,7 @@
 // The numbers that the questions allow, a test for each.
 
 ghost use mathlib.Core.Path.{_≡_};
-ghost use Rattle.refusals.specs.Ranges.{clockOk, optionalClockOk, frameSizeOk, delayOk, roundTripOk, smoothedOk, counterOk, ratioOk, etxOk, rttMsOk, trendOk};
+ghost use Rattle.refusals.specs.Ranges.{clockOk, optionalClockOk, frameSizeOk, delayOk, roundTripOk, smoothedOk, boundsOk, counterOk, ratioOk, etxOk, rttMsOk, trendOk};
 use crate::option::OptionU64;
 use floats::in_range;
 
@@ -66,6 +66,13 @@ pub fn smoothed_ok(us: i64) -> bool
     ensures { λ r. ⌜ r ≡ smoothedOk us ⌝ }
 {
     us <= MAX_DELAY_US
+}
+
+// Question 9: the interval bounds in order. A smoothed value of 0 or less asks for none.
+pub fn bounds_ok(srtt_us: i64, min_ms: u64, max_ms: u64) -> bool
+    ensures { λ r. ⌜ r ≡ boundsOk «srtt_us» «min_ms» «max_ms» ⌝ }
+{
+    (srtt_us <= 0) | (min_ms <= max_ms)
 }
 
 // Question 10: a counter of 32 bits that gains `more`.

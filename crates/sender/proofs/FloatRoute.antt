@@ -11,7 +11,7 @@ use lib.Ieee.{binary64, mul, ofInt, toUnsigned}
 use Rattle.floats.proofs.PowersOfTwo.{power-exact, product-cast}
 use Rattle.sender.specs.State.{keepsRule}
 use Rattle.sender.specs.Backoff.{backoff, multiplier}
-use Rattle.sender.specs.Reports.{effectiveMs}
+use Rattle.sender.specs.Pacing.{effectiveMs}
 use Rattle.sender.specs.declared.SenderState.{SenderState}
 use Rattle.sender.proofs.QuestionsAnswered.{interval-at-most}
 

@@ -1,23 +1,25 @@
 -- What the rule says by its clauses, and what a call that nothing refuses knows of its record and its arguments.
 -- Assumes nothing.
 use mathlib.Core.Path.{_≡_, refl}
-use mathlib.Core.Bool.{true, _&&_, and-eq-true-iff}
+use mathlib.Core.Bool.{true, and-eq-true-iff}
 use mathlib.Core.List.{[], _∷_}
 use Prim.Native.Nat.{ℕ, _+_, _^_, _≤_, _<_}
-use lib.Dec.{eqb}
-use lib.IntN.{ℤ}
 use borrow.Author.Tests.{leb-true, ltb-true}
 use Rattle.refusals.specs.Questions.{question}
-use Rattle.refusals.specs.Ranges.{maxClock, maxFrame, clockOk, frameSizeOk, counterOk, smoothedOk, boundsOk}
+use Rattle.refusals.specs.Ranges.{maxClock, maxFrame, clockOk, frameSizeOk, counterOk}
 use Rattle.refusals.proofs.FirstNoFound.{each-yes}
-use Rattle.sender.specs.State.{lastReportOk, keepsRule, Kept, newRefusal, refusalOf}
+use Rattle.sender.specs.State.{lastReportOk, keepsRule, refusalOf}
 use Rattle.sender.specs.Sent.{countersOk, sentRefusal}
 use Rattle.sender.specs.Backoff.{failureRefusal}
 use Rattle.sender.specs.Reports.{reportRefusal}
-use Rattle.sender.specs.Pacing.{fromSrttRefusal, withBoundsRefusal}
 use Rattle.sender.specs.declared.SenderState.{SenderState}
 
 -- ---- the rule
+-- the rule's clauses by name
+pub record Kept (s : SenderState) : Type 0 where
+  pub last-report : lastReportOk s ≡ true
+  pub interval : clockOk (s .«report_interval_ms») ≡ true
+
 pub kept : (s : SenderState) → keepsRule s ≡ true → Kept s
 unfolding keepsRule
 kept s h =
@@ -28,10 +30,6 @@ pub interval-at-most : (s : SenderState) → keepsRule s ≡ true → s .«repor
 interval-at-most s h = leb-true (s .«report_interval_ms») maxClock (kept s h .interval)
 
 -- ---- the questions of each call
-pub new-asked : (ms : ℕ) → newRefusal ms ≡ 0 → clockOk ms ≡ true
-unfolding newRefusal
-new-asked ms h = each-yes (question 2 (clockOk ms) ∷ []) refl h .0
-
 pub state-asked : (s : SenderState) → refusalOf s ≡ 0 → keepsRule s ≡ true
 unfolding refusalOf
 state-asked s h = each-yes (question 1 (keepsRule s) ∷ []) refl h .0
@@ -64,15 +62,3 @@ unfolding failureRefusal
 failure-asked s h =
     let y = each-yes (question 1 (keepsRule s) ∷ question 10 (counterOk 32 (s .«consecutive_send_failures») 1) ∷ []) refl h in
     (y .0, ltb-true (s .«consecutive_send_failures» + 1) (2 ^ 32) (y .1 .0))
-
-pub from-srtt-asked : (s : SenderState) (srtt : ℤ) → fromSrttRefusal s srtt ≡ 0 → keepsRule s ≡ true
-unfolding fromSrttRefusal
-from-srtt-asked s srtt h = each-yes (question 1 (keepsRule s) ∷ question 8 (smoothedOk srtt) ∷ []) refl h .0
-
--- bounds of the caller's: the rule, and both bounds in range
-pub with-bounds-asked : (s : SenderState) (srtt : ℤ) (lo hi : ℕ) → withBoundsRefusal s srtt lo hi ≡ 0 → (keepsRule s ≡ true) × (lo ≤ maxClock) × (hi ≤ maxClock)
-unfolding withBoundsRefusal
-with-bounds-asked s srtt lo hi h =
-    let y = each-yes (question 1 (keepsRule s) ∷ question 2 (clockOk lo && clockOk hi) ∷ question 8 (smoothedOk srtt) ∷ question 9 (boundsOk srtt lo hi) ∷ []) refl h in
-    let bounds = and-eq-true-iff (clockOk lo) (clockOk hi) .0 (y .1 .0) in
-    (y .0, leb-true lo maxClock (bounds .0), leb-true hi maxClock (bounds .1))

@@ -2,23 +2,23 @@
 -- Assumes nothing.
 use mathlib.Core.Path.{_≡_, refl}
 use mathlib.Core.Bool.{Bool, true, false, cond, and-eq-true-iff}
-use Prim.Native.Nat.{ℕ, _*_, _≤_}
-use native.Mathlib.Omega.{arith}
+use Prim.Native.Nat.{ℕ}
 use lib.Dec.{eqb}
 use lib.IntN.{ℤ}
-use borrow.Author.Tests.{le-leb, eqb-true}
-use Rattle.numbers.specs.Intervals.{top, updateCounted, nextInterval}
-use Rattle.numbers.specs.Signs.{asUnsigned}
-use Rattle.numbers.proofs.IntervalAtMost.{next-at-most, floor-at-most}
-use Rattle.refusals.specs.Ranges.{maxClock, clockOk}
-use Rattle.sender.specs.State.{lastReportOk, keepsRule, Kept, startedAt, fresh, newRefusal, newOf}
+use borrow.Author.Tests.{eqb-true}
+use Rattle.refusals.specs.Ranges.{clockOk}
+use Rattle.pace.specs.Updates.{coldStartRefusal, updated, fromSrtt, withBounds}
+use Rattle.pace.specs.declared.Paced.{Paced}
+use Rattle.pace.proofs.QuestionsAnswered.{cold-start-asked, from-srtt-asked, with-bounds-asked}
+use Rattle.pace.proofs.IntervalAtMost.{from-srtt-in-range, with-bounds-in-range}
+use Rattle.sender.specs.State.{lastReportOk, keepsRule, startedAt, fresh, newOf}
 use Rattle.sender.specs.Sent.{begun, opened, counted, sent, sentOf}
 use Rattle.sender.specs.Backoff.{withFailures, failureOf, successOf}
 use Rattle.sender.specs.Reports.{reportOf, someBuilt, noneBuilt, built, reportRefusal, builtOf}
-use Rattle.sender.specs.Pacing.{withPace, paced, countedPace, fromSrttOf, withBoundsOf}
+use Rattle.sender.specs.Pacing.{withPace, fromSrttOf, withBoundsOf}
 use Rattle.sender.specs.declared.SenderState.{SenderState}
 use Rattle.sender.specs.declared.reports.SenderReportBuilt.{SenderReportBuilt}
-use Rattle.sender.proofs.QuestionsAnswered.{kept, interval-at-most, new-asked, state-asked, sent-asked, report-asked, failure-asked, from-srtt-asked, with-bounds-asked}
+use Rattle.sender.proofs.QuestionsAnswered.{Kept, kept, state-asked, sent-asked, report-asked, failure-asked}
 
 -- the clauses make the rule
 keeps : (s : SenderState) → Kept s → keepsRule s ≡ true
@@ -33,10 +33,10 @@ fresh-keeps-rule = refl
 -- refused or not: a refused constructor gives the default
 pub new-keeps-rule : (ms : ℕ) → keepsRule (newOf ms .state) ≡ true
 unfolding newOf
-new-keeps-rule ms = go (eqb (newRefusal ms) 0) refl
+new-keeps-rule ms = go (eqb (coldStartRefusal ms) 0) refl
   where
-    go : (b : Bool) → eqb (newRefusal ms) 0 ≡ b → keepsRule (cond b (startedAt ms) fresh) ≡ true
-    go true e = keeps (startedAt ms) (record { last-report = refl; interval = new-asked ms (eqb-true (newRefusal ms) 0 e) })
+    go : (b : Bool) → eqb (coldStartRefusal ms) 0 ≡ b → keepsRule (cond b (startedAt ms) fresh) ≡ true
+    go true e = keeps (startedAt ms) (record { last-report = refl; interval = cold-start-asked ms (eqb-true (coldStartRefusal ms) 0 e) })
     go false e = fresh-keeps-rule
 
 -- ---- a frame
@@ -99,23 +99,19 @@ unfolding successOf
 success-keeps-rule s h = rw h (failures-keep-rule s 0 (state-asked s h))
 
 -- ---- the interval
-pace-keeps-rule : (s : SenderState) (srtt : ℤ) (lo hi updates : ℕ) → keepsRule s ≡ true → lo ≤ maxClock → hi ≤ maxClock → keepsRule (paced s srtt lo hi updates) ≡ true
-unfolding paced
-pace-keeps-rule s srtt lo hi updates h hl hh =
-    let k = kept s h in
-    let next = nextInterval (s .«report_interval_ms») (2 * asUnsigned srtt) lo hi in
-    keeps (withPace s next updates)
-    (record {
-      last-report = k .last-report;
-      interval = le-leb next maxClock (next-at-most (s .«report_interval_ms») (2 * asUnsigned srtt) lo hi maxClock (interval-at-most s h) hl hh);
-    })
+pace-keeps-rule : (s : SenderState) (p : Paced) → keepsRule s ≡ true → clockOk (p .«report_interval_ms») ≡ true → keepsRule (withPace s p .state) ≡ true
+pace-keeps-rule s p h i = keeps (withPace s p .state) (record { last-report = kept s h .last-report; interval = i })
 
 pub from-srtt-keeps-rule : (s : SenderState) (srtt : ℤ) → fromSrttOf s srtt .refusal ≡ 0 → keepsRule (fromSrttOf s srtt .state) ≡ true
-unfolding fromSrttOf countedPace
-from-srtt-keeps-rule s srtt h = rw h (pace-keeps-rule s srtt _ top _ (from-srtt-asked s srtt h) (omega (arith, floor-at-most (updateCounted (s .«srtt_sample_count»)))) (omega arith))
+unfolding fromSrttOf fromSrtt updated
+from-srtt-keeps-rule s srtt h =
+    let rule = from-srtt-asked (keepsRule s) srtt h .0 in
+    pace-keeps-rule s (fromSrtt (keepsRule s) 2 (s .«report_interval_ms») (s .«srtt_sample_count») srtt) rule
+    (from-srtt-in-range (keepsRule s) 2 (s .«report_interval_ms») (s .«srtt_sample_count») srtt (kept s rule .interval))
 
 pub with-bounds-keeps-rule : (s : SenderState) (srtt : ℤ) (lo hi : ℕ) → withBoundsOf s srtt lo hi .refusal ≡ 0 → keepsRule (withBoundsOf s srtt lo hi .state) ≡ true
-unfolding withBoundsOf
+unfolding withBoundsOf withBounds updated
 with-bounds-keeps-rule s srtt lo hi h =
-    let y = with-bounds-asked s srtt lo hi h in
-    rw h (pace-keeps-rule s srtt lo hi (s .«srtt_sample_count») (y .0) (y .1) (y .2))
+    let rule = with-bounds-asked (keepsRule s) srtt lo hi h .rule in
+    pace-keeps-rule s (withBounds (keepsRule s) 2 (s .«report_interval_ms») (s .«srtt_sample_count») srtt lo hi) rule
+    (with-bounds-in-range (keepsRule s) 2 (s .«report_interval_ms») (s .«srtt_sample_count») srtt (kept s rule .interval) lo hi)

@@ -1,16 +1,13 @@
--- A report is due, and built, as sender.rs has it: document 01, "Reports due". Definitions only.
-use mathlib.Core.Bool.{Bool, true, false, cond, not, _&&_, _||_}
+-- A report is built, as sender.rs has it. Definitions only.
+use mathlib.Core.Bool.{true, false, cond}
 use mathlib.Core.List.{[], _∷_}
-use Prim.Native.Nat.{ℕ, _-_, _*_}
-use lib.Dec.{eqb, leb}
-use Rattle.refusals.specs.Answers.{answerBool}
+use Prim.Native.Nat.{ℕ}
+use lib.Dec.{eqb}
 use Rattle.refusals.specs.Questions.{question, firstNo}
 use Rattle.refusals.specs.Ranges.{clockOk}
-use Rattle.refusals.specs.declared.answer.AnswerBool.{AnswerBool}
 use Rattle.wire.specs.SenderReport.{noReport}
 use Rattle.wire.specs.declared.sender_report.SenderReport.{SenderReport}
 use Rattle.sender.specs.State.{keepsRule}
-use Rattle.sender.specs.Backoff.{backoff}
 use Rattle.sender.specs.declared.SenderState.{SenderState}
 use Rattle.sender.specs.declared.reports.SenderReportBuilt.{SenderReportBuilt}
 
@@ -65,15 +62,3 @@ built s now = cond (s .«interval_has_data») (someBuilt s now (reportOf s)) (no
 -- the same behind the questions
 unfoldable pub builtOf : SenderState → ℕ → SenderReportBuilt
 builtOf s now = cond (eqb (reportRefusal s now) 0) (built s now) (noneBuilt (reportRefusal s now) s)
-
--- the interval, multiplied by the send failures
-abbrev pub effectiveMs : SenderState → ℕ
-effectiveMs s = s .«report_interval_ms» * backoff (s .«consecutive_send_failures»)
-
--- a report is due: there is data, and no report yet or the interval has passed since the last one, 0 having passed if the clock fell
-unfoldable pub isDue : SenderState → ℕ → Bool
-isDue s now = s .«interval_has_data» && (not (s .«has_last_report») || leb (effectiveMs s) (now - s .«last_report_ms»))
-
--- the same behind the questions; no on a refusal
-unfoldable pub shouldSendOf : SenderState → ℕ → AnswerBool
-shouldSendOf s now = answerBool (reportRefusal s now) (isDue s now)

@@ -1,6 +1,5 @@
 -- A sender's record, its rule and its fields: document 01, the state rule and "Reports due". Definitions only.
-use mathlib.Core.Path.{_≡_}
-use mathlib.Core.Bool.{Bool, true, false, cond, not, _&&_, _||_}
+use mathlib.Core.Bool.{Bool, false, cond, not, _&&_, _||_}
 use mathlib.Core.List.{[], _∷_}
 use Prim.Native.Nat.{ℕ}
 use lib.Dec.{eqb}
@@ -9,6 +8,7 @@ use Rattle.refusals.specs.Questions.{question, firstNo}
 use Rattle.refusals.specs.Ranges.{clockOk}
 use Rattle.refusals.specs.declared.answer.AnswerU32.{AnswerU32}
 use Rattle.refusals.specs.declared.answer.AnswerU64.{AnswerU64}
+use Rattle.pace.specs.Updates.{coldStartRefusal}
 use Rattle.sender.specs.declared.SenderState.{SenderState}
 use Rattle.sender.specs.declared.SenderNew.{SenderNew}
 use Rattle.sender.specs.declared.SenderUpdate.{SenderUpdate}
@@ -20,11 +20,6 @@ lastReportOk s = not (s .«has_last_report») || clockOk (s .«last_report_ms»)
 -- document 01, State rule: the clock field and the report interval obey question 2
 unfoldable pub keepsRule : SenderState → Bool
 keepsRule s = lastReportOk s && clockOk (s .«report_interval_ms»)
-
--- the rule's clauses by name
-pub record Kept (s : SenderState) : Type 0 where
-  pub last-report : lastReportOk s ≡ true
-  pub interval : clockOk (s .«report_interval_ms») ≡ true
 
 -- nothing sent, and a first report interval
 abbrev pub startedAt : ℕ → SenderState
@@ -49,13 +44,9 @@ startedAt ms =
 abbrev pub fresh : SenderState
 fresh = startedAt 200
 
--- document 01, the checks: question 2 alone
-unfoldable pub newRefusal : ℕ → ℕ
-newRefusal ms = firstNo (question 2 (clockOk ms) ∷ [])
-
 -- a cold-start interval of the caller's; "A refused constructor, given no state, returns the default one"
 unfoldable pub newOf : ℕ → SenderNew
-newOf ms = record { refusal = newRefusal ms; state = cond (eqb (newRefusal ms) 0) (startedAt ms) fresh }
+newOf ms = record { refusal = coldStartRefusal ms; state = cond (eqb (coldStartRefusal ms) 0) (startedAt ms) fresh }
 
 -- document 01, the checks: question 1 alone
 unfoldable pub refusalOf : SenderState → ℕ

@@ -1,12 +1,14 @@
 // sender.rs: what an end keeps of the frames that it sends to a peer, and when it reports them. Times come in as numbers.
 
 pub mod sent; // sent.rt: a frame is sent
-pub mod reports; // reports.rt: a report is due, and built
+pub mod reports; // reports.rt: a report is built
 pub mod backoff; // backoff.rt: failures to send a report
-pub mod pacing; // pacing.rt: the report interval from the smoothed round trip
+pub mod pacing; // pacing.rt: the report interval, and when a report is due
 
 ghost use mathlib.Core.Path.{_≡_};
+ghost use Rattle.refusals.specs.Answers.{answerU64};
 ghost use Rattle.sender.specs.State.{keepsRule, refusalOf, startedAt, fresh, newOf, packetsOf, bytesOf, intervalOf, failuresOf};
+use pace::cold_start_refusal;
 use refusals::answer::AnswerU32;
 use refusals::answer::AnswerU64;
 use refusals::questions::Questions;
@@ -90,9 +92,7 @@ impl SenderState {
     pub fn new_with_cold_start(cold_start_ms: u64) -> SenderNew
         ensures { λ r. ⌜ r ≡ newOf «cold_start_ms» ⌝ }
     {
-        let mut q = Questions::all_yes();
-        q.clocks = clock_ok(cold_start_ms);
-        let refusal = q.first_no();
+        let refusal = cold_start_refusal(cold_start_ms);
         if refusal == 0 {
             let state = SenderState::started(cold_start_ms);
             SenderNew { refusal, state }
@@ -120,22 +120,28 @@ impl SenderState {
 
     // --- Accessors ---
 
+    fn answer_u64(self, value: u64) -> AnswerU64
+        ensures { λ r. ⌜ r ≡ answerU64 (refusalOf self) value ⌝ }
+    {
+        AnswerU64::of(self.refusal(), value)
+    }
+
     pub fn cumulative_packets_sent(self) -> AnswerU64
         ensures { λ r. ⌜ r ≡ packetsOf self ⌝ }
     {
-        AnswerU64::of(self.refusal(), self.cumulative_packets_sent)
+        self.answer_u64(self.cumulative_packets_sent)
     }
 
     pub fn cumulative_bytes_sent(self) -> AnswerU64
         ensures { λ r. ⌜ r ≡ bytesOf self ⌝ }
     {
-        AnswerU64::of(self.refusal(), self.cumulative_bytes_sent)
+        self.answer_u64(self.cumulative_bytes_sent)
     }
 
     pub fn report_interval_ms(self) -> AnswerU64
         ensures { λ r. ⌜ r ≡ intervalOf self ⌝ }
     {
-        AnswerU64::of(self.refusal(), self.report_interval_ms)
+        self.answer_u64(self.report_interval_ms)
     }
 
     pub fn consecutive_send_failures(self) -> AnswerU32

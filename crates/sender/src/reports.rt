@@ -1,13 +1,8 @@
-// A report is due, and built.
+// A report is built.
 
 ghost use mathlib.Core.Path.{_≡_};
-ghost use Prim.Native.Nat.{_≤_};
-ghost use Rattle.refusals.specs.Ranges.{maxClock};
-ghost use Rattle.sender.specs.Reports.{reportOf, noneBuilt, built, builtOf, isDue, shouldSendOf};
+ghost use Rattle.sender.specs.Reports.{reportOf, noneBuilt, built, builtOf};
 use crate::SenderState;
-use crate::backoff::backoff_of;
-use numbers::methods::saturating_sub_u64;
-use refusals::answer::AnswerBool;
 use refusals::questions::Questions;
 use refusals::ranges::clock_ok;
 use wire::sender_report::SenderReport;
@@ -83,35 +78,6 @@ impl SenderState {
             self.build(now_ms)
         } else {
             none_built(refusal, self)
-        }
-    }
-
-    // Frames have been sent, and the effective interval has passed since the last report, if there was one.
-    fn due(self, now_ms: u64) -> bool
-        requires { ⌜ self .«report_interval_ms» ≤ maxClock ⌝ }
-        ensures { λ r. ⌜ r ≡ isDue self «now_ms» ⌝ }
-    {
-        let effective_ms = self.report_interval_ms * backoff_of(self.consecutive_send_failures);
-        let since_ms = saturating_sub_u64(now_ms, self.last_report_ms);
-        self.interval_has_data & (!self.has_last_report | (effective_ms <= since_ms))
-    }
-
-    // Whether it is time to send a report.
-    pub fn should_send_report(self, now_ms: u64) -> AnswerBool
-        ensures { λ r. ⌜ r ≡ shouldSendOf self «now_ms» ⌝ }
-    {
-        let mut q = Questions::all_yes();
-        q.state = self.keeps_rule();
-        q.clocks = clock_ok(now_ms);
-        let refusal = q.first_no();
-        if refusal == 0 {
-            let value = self.due(now_ms);
-            AnswerBool { refusal, value }
-        } else {
-            AnswerBool {
-                refusal,
-                value: false,
-            }
         }
     }
 }

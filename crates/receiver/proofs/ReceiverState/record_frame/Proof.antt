@@ -32,7 +32,7 @@ accepted c =
     let b = n .before .before in
     let a = b .before .before .args in
     let z = eq-eqb _ 0 (sym (gate b) ∙ n .before .if1 .taken) in
-    let e = t .take .ensures in (
+    let e = t .sample .ensures in (
       rw (e .0, n .count .ensures, gate b, z),
       (
         rw (e .1 .0, n .count .ensures, z) (counted-times (a .self) (a .counter) (a .bytes) (a .ce-flag) (a .sender-timestamp-ms) (a .now-ms) (a .sampled) (a .times .now)),

@@ -1,8 +1,8 @@
 -- `sender::SenderState::due` meets its contract. Assumes nothing.
 use native.Mathlib.Omega.{arith}
 use native.Mathlib.Nat.{mul-le-mul}
-use Rattle.sender.specs.Reports.{isDue}
 use Rattle.sender.specs.Backoff.{backoff}
+use Rattle.sender.specs.Pacing.{isDue}
 use Rattle.sender.proofs.FloatRoute.{backoff-at-most}
 use Rattle.sender.proofs.SenderState.due.Statement.{statement}
 use Rattle.sender.proofs.SenderState.due.Tie as tie

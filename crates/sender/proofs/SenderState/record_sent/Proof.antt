@@ -59,14 +59,4 @@ refused c =
     rw (gate, ne-eqb _ 0 (rw gate at (c .if1 .left)))
 
 pub record-sent-spec : {M : Type 1} → statement M
-record-sent-spec =
-    tie.close
-    (tie.spec
-    (λ c κs. tt)
-    (λ c κs. tt)
-    cast
-    (λ c κs. tt)
-    add-packets
-    add-bytes
-    accepted
-    refused)
+record-sent-spec = tie.close (tie.spec (λ c κs. tt) (λ c κs. tt) cast (λ c κs. tt) add-packets add-bytes accepted refused)

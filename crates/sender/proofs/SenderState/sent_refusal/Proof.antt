@@ -54,19 +54,4 @@ each-yes c =
     (sym (rule .keeps-rule .ensures) ∙ bytes .before .if1 .taken, (sym (size .frame-size-ok .ensures) ∙ c .before .before .if3 .taken, (fit, tt))))
 
 pub sent-refusal-spec : {M : Type 1} → statement M
-sent-refusal-spec =
-    tie.close
-    (tie.spec
-    (λ c κs. tt)
-    (λ c κs. tt)
-    rule-broken
-    (λ c κs. tt)
-    (λ c κs. tt)
-    bytes-full
-    (λ c κs. tt)
-    (λ c κs. tt)
-    too-large
-    (λ c κs. tt)
-    (λ c κs. tt)
-    packets-full
-    each-yes)
+sent-refusal-spec = tie.close (tie.spec (λ c κs. tt) (λ c κs. tt) rule-broken (λ c κs. tt) (λ c κs. tt) bytes-full (λ c κs. tt) (λ c κs. tt) too-large (λ c κs. tt) (λ c κs. tt) packets-full each-yes)

@@ -2,7 +2,8 @@
 use mathlib.Core.Path.{_≡_, sym, _∙_}
 use borrow.Author.Tests.{eq-eqb, ne-eqb}
 use Rattle.refusals.specs.Questions.{firstNo, asked}
-use Rattle.sender.specs.Reports.{reportRefusal, shouldSendOf}
+use Rattle.sender.specs.Reports.{reportRefusal}
+use Rattle.sender.specs.Pacing.{shouldSendOf}
 use Rattle.sender.proofs.QuestionsAnswered.{interval-at-most, report-asked}
 use Rattle.sender.proofs.SenderState.should_send_report.Statement.{statement}
 use Rattle.sender.proofs.SenderState.should_send_report.Tie as tie

@@ -1,0 +1,3 @@
+-- The definitions that the contracts of `pace` cite.
+pub mod Intervals
+pub mod Updates

@@ -1,6 +1,0 @@
--- `sender::SenderState::report_interval_ms` meets its contract. Assumes nothing.
-use Rattle.sender.proofs.SenderState.report_interval_ms.Statement.{statement}
-use Rattle.sender.proofs.SenderState.report_interval_ms.Tie as tie
-
-pub report-interval-ms-spec : {M : Type 1} → statement M
-report-interval-ms-spec = tie.close (tie.spec (λ c κs. tt) (λ c κs. tt) (λ c. rw (c .of .ensures, c .before .refusal .ensures)))
