@@ -143,7 +143,7 @@ fn log_sum(log: RrLog) -> u64 {
             prev_packets,
             prev_bytes,
         } => { prev_highest ^ prev_packets ^ prev_bytes }
-        RrLog::RttSample(ms, srtt_ms) => wide(ms) ^ flag(srtt_ms < 8.0),
+        RrLog::RttSample { rtt_ms, srtt_ms } => wide(rtt_ms) ^ flag(srtt_ms < 8.0),
         RrLog::InvalidRtt => 3,
     }
 }

@@ -47,7 +47,7 @@ fn says_stale(log: RrLog) -> u64 {
     match log {
         RrLog::None => 0,
         RrLog::Stale { .. } => 1,
-        RrLog::RttSample(_, _) => 0,
+        RrLog::RttSample { .. } => 0,
         RrLog::InvalidRtt => 0,
     }
 }
@@ -57,7 +57,7 @@ fn says_sample(log: RrLog, ms: u32, before: f64) -> bool {
     match log {
         RrLog::None => false,
         RrLog::Stale { .. } => false,
-        RrLog::RttSample(m, srtt) => (m == ms) & (srtt == before),
+        RrLog::RttSample { rtt_ms, srtt_ms } => (rtt_ms == ms) & (srtt_ms == before),
         RrLog::InvalidRtt => false,
     }
 }

@@ -1,18 +1,17 @@
 -- Which questions a call's refusal comes from: where those of some numbers are answered yes, none of these numbers refuses. So a record that keeps its rule is not
 -- refused by 1, and a call whose arguments answer yes is accepted or meets 10.
-use mathlib.Core.Path.{_≡_, refl, sym, _∙_, ap}
+use mathlib.Core.Path.{_≡_, refl}
 use mathlib.Core.Logic.{_≢_}
 use mathlib.Core.Bool.{Bool, true, false, cond, not, _&&_, _||_}
 use mathlib.Core.List.{List, [], _∷_}
-use Prim.Native.Nat.{ℕ, _^_, _<_}
+use Prim.Native.Nat.{ℕ, _^_}
 use native.Mathlib.Omega.{arith}
-use lib.Dec.{leb, ltb, eqb}
+use lib.Dec.{eqb}
 use lib.IntN.{ℤ}
-use lib.ListN.{length}
-use borrow.Author.Tests.{ltb-true, le-leb, eqb-true, eqb-false, eq-eqb, not-false}
+use borrow.Author.Tests.{ltb-true, le-leb, eqb-true, eqb-false, not-false}
 use Rattle.refusals.proofs.Clauses.{left, right}
-use Rattle.refusals.specs.Questions.{Question, question, firstNo}
-use Rattle.refusals.specs.Ranges.{maxClock, maxFrame, clockOk, frameSizeOk, counterOk, smoothedOk, boundsOk}
+use Rattle.refusals.specs.Questions.{Question, firstNo}
+use Rattle.refusals.specs.Ranges.{maxClock, maxFrame, clockOk, frameSizeOk, smoothedOk, boundsOk}
 use Rattle.history.specs.Asked as paper
 use Rattle.history.specs.Asked.{Served}
 
@@ -38,7 +37,7 @@ not-among N (q ∷ qs) z h = go (q .answer) (q .number) (left (not (N (q .number
 abbrev pub one : ℕ → Bool
 one n = eqb n 1
 
-pub not-one : (qs : List Question) → yesTo one qs ≡ true → firstNo qs ≢ 1
+not-one : (qs : List Question) → yesTo one qs ≡ true → firstNo qs ≢ 1
 not-one qs h = eqb-false (firstNo qs) 1 (not-among one qs refl h)
 
 -- all but 10 are answered yes
@@ -49,12 +48,23 @@ served-or-full : (n : ℕ) → (eqb n 0 || eqb n 10) ≡ true → Served n
 served-or-full n h = go (eqb n 0) (eqb n 10) (eqb-true n 0) (eqb-true n 10) h
   where
     go : (a b : Bool) → (a ≡ true → n ≡ 0) → (b ≡ true → n ≡ 10) → (a || b) ≡ true → Served n
-    go true b f g e = rw (f refl) Served.accepted
+    go true b f g e = rw (f refl) Served.answered
     go false true f g e = rw (g refl) Served.counter-full
     go false false f g e = let z : _≡_ {A = ℕ} 0 1 = cc in absurd (omega arith)
 
-pub served : (qs : List Question) → yesTo others qs ≡ true → Served (firstNo qs)
+served : (qs : List Question) → yesTo others qs ≡ true → Served (firstNo qs)
 served qs h = served-or-full (firstNo qs) (not-false _ (not-among others qs refl h))
+
+-- a refusal of a lawful record: not 1, and none but 10 where the arguments answer yes
+pub record Lawful (yes : Bool) (n : ℕ) : Type 0 where
+  pub not-by-rule : n ≢ 1
+  pub served-if-yes : yes ≡ true → Served n
+
+pub by-questions : {yes : Bool} (qs : List Question) → yesTo one qs ≡ true → (yes ≡ true → yesTo others qs ≡ true) → Lawful yes (firstNo qs)
+by-questions qs rule h = record { not-by-rule = not-one qs rule; served-if-yes = λ y. served qs (h y) }
+
+pub never-refused : {yes : Bool} → Lawful yes 0
+never-refused = record { not-by-rule = λ e. absurd (omega arith); served-if-yes = λ y. Served.answered }
 
 -- ---- what document 01's own ranges say of the code's
 pub clock-yes : (ms : ℕ) → paper.clock ms ≡ true → clockOk ms ≡ true

@@ -21,8 +21,8 @@ abbrev pub graceIn : OptionU64 → exact.Grace
 graceIn None = exact.no-grace
 graceIn (Some deadline) = exact.until deadline
 
-pub grace-agrees : (o : OptionU64) (now : ℕ) → exact.before (graceIn o) now ≡ inGrace o now
-unfolding exact.before
+pub grace-agrees : (o : OptionU64) (now : ℕ) → exact.beforeDeadline (graceIn o) now ≡ inGrace o now
+unfolding exact.beforeDeadline
 grace-agrees None now = refl
 grace-agrees (Some deadline) now = refl
 

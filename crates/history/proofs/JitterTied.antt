@@ -42,45 +42,45 @@ abbrev pub lastIn : OptionU64 → ℕ → exact.Last
 lastIn None timestamp = exact.no-frame
 lastIn (Some recv) timestamp = exact.frame recv timestamp
 
--- what is heard of the calls: the differences, the last frame and the grace
-pub record Sounds : Type 0 where
+-- what the accepted calls give: the differences, the last frame and the grace
+pub record Exact : Type 0 where
   pub differences : List ℤ
   pub last : exact.Last
   pub grace : exact.Grace
 
-abbrev pub soundsOf : List ReceiverCall → Sounds
-soundsOf l = record { differences = exact.differences l; last = exact.lastAfter l; grace = exact.graceAfter l }
+abbrev pub exactOf : List ReceiverCall → Exact
+exactOf l = record { differences = exact.differences l; last = exact.lastAfter l; grace = exact.graceAfter l }
 
-abbrev pub after : exact.Heard → Sounds → Sounds
-after x y =
+abbrev pub exactBy : exact.Event → Exact → Exact
+exactBy x y =
     record {
       differences = exact.differencesBy x (y .grace) (y .last) (y .differences);
       last = exact.lastBy x (y .last);
       grace = exact.graceBy x (y .grace);
     }
 
-abbrev silence : Sounds
-silence = record { differences = []; last = exact.no-frame; grace = exact.no-grace }
+abbrev exactNew : Exact
+exactNew = record { differences = []; last = exact.no-frame; grace = exact.no-grace }
 
 abbrev scaled : List ℤ → ℕ
 scaled ds = scaledOf (map natAbs ds)
 
-pub record Tied (y : Sounds) (s : ReceiverState) : Type 0 where
+pub record Tied (y : Exact) (s : ReceiverState) : Type 0 where
   pub jitter : asUnsigned (s .jitter .«jitter_q4») ≡ scaled (y .differences)
   pub last : lastIn (s .«last_recv_ms») (s .«last_sender_timestamp») ≡ y .last
   pub grace : graceIn (s .«rekey_jitter_grace_until_ms») ≡ y .grace
 
 -- ---- a new record
-started-tied : (window ms : ℕ) → Tied silence (startedAt window ms)
+started-tied : (window ms : ℕ) → Tied exactNew (startedAt window ms)
 started-tied window ms = record { jitter = refl; last = refl; grace = refl }
 
-pub new-tied : (k : ReceiverNew) → Tied (soundsOf []) (newReceiver k)
+pub new-tied : (k : ReceiverNew) → Tied (exactOf []) (newReceiver k)
 unfolding newOf exact.differences exact.lastAfter exact.graceAfter
 new-tied (ReceiverNew.new window) = started-tied window 200
 new-tied ReceiverNew.default = started-tied 32 200
 new-tied (ReceiverNew.«new_with_cold_start» window ms) = go (eqb (coldStartRefusal ms) 0)
   where
-    go : (b : Bool) → Tied silence (cond b (startedAt window ms) fresh)
+    go : (b : Bool) → Tied exactNew (cond b (startedAt window ms) fresh)
     go true = started-tied window ms
     go false = started-tied 32 200
 
@@ -98,12 +98,12 @@ step-tied (Some recv) before timestamp now j ds h =
     rw (difference-agrees recv before now timestamp) (ap (λ (n : ℕ). jitterStep n (natAbs (transit (now - recv) timestamp before))) h ∙ sym (scaled-more ds (transit (now - recv) timestamp before)))
 
 -- counting moves none of it
-counted-tied : (y : Sounds) (s : ReceiverState) (counter bytes : ℕ) (ce : Bool) → Tied y s → Tied y (counted s counter bytes ce)
+counted-tied : (y : Exact) (s : ReceiverState) (counter bytes : ℕ) (ce : Bool) → Tied y s → Tied y (counted s counter bytes ce)
 unfolding counted
 counted-tied y s counter bytes ce h = record { jitter = h .jitter; last = h .last; grace = h .grace }
 
-sampled-tied : (y : Sounds) (s : ReceiverState) (timestamp now : ℕ) → Tied y s →
-    Tied (after (exact.sampled timestamp now) y) (withSample s timestamp now true)
+sampled-tied : (y : Exact) (s : ReceiverState) (timestamp now : ℕ) → Tied y s →
+    Tied (exactBy (exact.sampled timestamp now) y) (withSample s timestamp now true)
 unfolding withSample pushes timingSampled echoIfSampled exact.differencesBy exact.lastBy exact.graceBy
 sampled-tied y s timestamp now h =
     rw (← h .grace, ← h .last, grace-agrees (s .«rekey_jitter_grace_until_ms») now) (go (inGrace (s .«rekey_jitter_grace_until_ms») now))
@@ -120,15 +120,15 @@ sampled-tied y s timestamp now h =
     go false = record { jitter = step-tied (s .«last_recv_ms») (s .«last_sender_timestamp») timestamp now (s .jitter) (y .differences) (h .jitter); last = refl; grace = refl }
 
 -- frameOf behind its questions
-frame-tied : (y : Sounds) (s : ReceiverState) (f : Frame) (sampled : Bool) → framing f sampled s .refusal ≡ 0 → Tied y s →
-    Tied (after (exact.heard (ReceiverCall.«record_frame» f sampled)) y) (framing f sampled s .state)
+frame-tied : (y : Exact) (s : ReceiverState) (f : Frame) (sampled : Bool) → framing f sampled s .refusal ≡ 0 → Tied y s →
+    Tied (exactBy (exact.eventOf (ReceiverCall.«record_frame» f sampled)) y) (framing f sampled s .state)
 unfolding frameOf withSample pushes echoIfSampled exact.differencesBy exact.lastBy exact.graceBy
 frame-tied y s f true e h =
     rw e (sampled-tied y (counted s (f .counter) (f .bytes) (f .ce)) (f .timestamp) (f .now) (counted-tied y s (f .counter) (f .bytes) (f .ce) h))
 frame-tied y s f false e h = rw e (counted-tied y s (f .counter) (f .bytes) (f .ce) h)
 
 -- ---- the other calls
-built-tied : (y : Sounds) (s : ReceiverState) (trend : ℤ) (now : ℕ) → Tied y s → Tied y (built s trend now .state)
+built-tied : (y : Exact) (s : ReceiverState) (trend : ℤ) (now : ℕ) → Tied y s → Tied y (built s trend now .state)
 unfolding built
 built-tied y s trend now h = go (s .«interval_has_data»)
   where
@@ -136,7 +136,7 @@ built-tied y s trend now h = go (s .«interval_has_data»)
     go true = record { jitter = h .jitter; last = h .last; grace = h .grace }
     go false = h
 
-report-tied : (y : Sounds) (s : ReceiverState) (times : List ℕ) (delays : List ℤ) (now : ℕ) → Tied y s → Tied y (builtOf s times delays now .state)
+report-tied : (y : Exact) (s : ReceiverState) (times : List ℕ) (delays : List ℤ) (now : ℕ) → Tied y s → Tied y (builtOf s times delays now .state)
 unfolding builtOf
 report-tied y s times delays now h = go (eqb (reportRefusal s times delays now) 0) _
   where
@@ -144,22 +144,22 @@ report-tied y s times delays now h = go (eqb (reportRefusal s times delays now) 
     go true trend = built-tied y s trend now h
     go false trend = h
 
-paced-tied : (y : Sounds) (s : ReceiverState) (p : Paced) → Tied y s → Tied y (withPace s p .state)
+paced-tied : (y : Exact) (s : ReceiverState) (p : Paced) → Tied y s → Tied y (withPace s p .state)
 paced-tied y s p h = record { jitter = h .jitter; last = h .last; grace = h .grace }
 
-rekeyed-tied : (y : Sounds) (s : ReceiverState) (now : ℕ) → Tied (after (exact.rekeyed now) y) (rekeyed s (now + 15000))
+rekeyed-tied : (y : Exact) (s : ReceiverState) (now : ℕ) → Tied (exactBy (exact.rekeyed now) y) (rekeyed s (now + 15000))
 unfolding rekeyed exact.differencesBy exact.lastBy exact.graceBy
 rekeyed-tied y s now = record { jitter = refl; last = refl; grace = refl }
 
 -- every accepted call
-pub tied-next : (c : ReceiverCall) (l : List ReceiverCall) (s : ReceiverState) → receiverStep c s .refusal ≡ 0 → Tied (soundsOf l) s → Tied (soundsOf (c ∷ l)) (receiverStep c s .state)
+pub tied-next : (c : ReceiverCall) (l : List ReceiverCall) (s : ReceiverState) → receiverStep c s .refusal ≡ 0 → Tied (exactOf l) s → Tied (exactOf (c ∷ l)) (receiverStep c s .state)
 unfolding receiverStep rekeyOf fromSrttOf withBoundsOf exact.differences exact.lastAfter exact.graceAfter exact.differencesBy exact.lastBy exact.graceBy
-tied-next (ReceiverCall.«record_frame» f sampled) l s e h = frame-tied (soundsOf l) s f sampled e h
-tied-next (ReceiverCall.«record_recv» f) l s e h = frame-tied (soundsOf l) s f true e h
-tied-next (ReceiverCall.«reset_for_rekey» now) l s e h = rw e (rekeyed-tied (soundsOf l) s now)
-tied-next (ReceiverCall.«build_report» times delays now) l s e h = report-tied (soundsOf l) s times delays now h
-tied-next (ReceiverCall.«update_report_interval_from_srtt» srtt) l s e h = paced-tied (soundsOf l) s (fromSrtt (keepsRule s) 1 (s .«report_interval_ms») (s .«srtt_sample_count») srtt) h
-tied-next (ReceiverCall.«update_report_interval_with_bounds» srtt lo hi) l s e h = paced-tied (soundsOf l) s (withBounds (keepsRule s) 1 (s .«report_interval_ms») (s .«srtt_sample_count») srtt lo hi) h
+tied-next (ReceiverCall.«record_frame» f sampled) l s e h = frame-tied (exactOf l) s f sampled e h
+tied-next (ReceiverCall.«record_recv» f) l s e h = frame-tied (exactOf l) s f true e h
+tied-next (ReceiverCall.«reset_for_rekey» now) l s e h = rw e (rekeyed-tied (exactOf l) s now)
+tied-next (ReceiverCall.«build_report» times delays now) l s e h = report-tied (exactOf l) s times delays now h
+tied-next (ReceiverCall.«update_report_interval_from_srtt» srtt) l s e h = paced-tied (exactOf l) s (fromSrtt (keepsRule s) 1 (s .«report_interval_ms») (s .«srtt_sample_count») srtt) h
+tied-next (ReceiverCall.«update_report_interval_with_bounds» srtt lo hi) l s e h = paced-tied (exactOf l) s (withBounds (keepsRule s) 1 (s .«report_interval_ms») (s .«srtt_sample_count») srtt lo hi) h
 tied-next (ReceiverCall.ask q) l s e h = h
 
 -- ---- a report
@@ -188,7 +188,7 @@ built-jitter s trend now rr e = go (s .«interval_has_data») e
     go true e = let same : someBuilt s trend now .report ≡ rr = cc in ap (λ (r : ReceiverReport). r .jitter) (sym same)
     go false e = let z : _≡_ {A = ℕ} 0 1 = cc in absurd (omega arith)
 
-pub report-near : (s : ReceiverState) (times : List ℕ) (delays : List ℤ) (now : ℕ) (l : List ReceiverCall) (rr : ReceiverReport) → Tied (soundsOf l) s →
+pub report-near : (s : ReceiverState) (times : List ℕ) (delays : List ℤ) (now : ℕ) (l : List ReceiverCall) (rr : ReceiverReport) → Tied (exactOf l) s →
     _≡_ {A = Answer} (Answer.receiver-report (builtOf s times delays now .some) (builtOf s times delays now .report)) (Answer.receiver-report true rr) →
     (rr .jitter < 2 ^ 32) × ReportedNear (jitterAverage l) (rr .jitter)
 unfolding builtOf

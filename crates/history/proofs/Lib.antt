@@ -1,5 +1,7 @@
 pub mod Runs
-pub mod Reached
+pub mod Held
+pub mod ReportsBuilt
+pub mod StruckOut
 pub mod RefusedStays
 pub mod RoundTripsAgree
 pub mod RoundTripTied
@@ -15,7 +17,6 @@ pub mod NoCreepHolds
 pub mod RekeySaid
 pub mod LogSaid
 pub mod ExampleComputed
-pub mod Tellings
 pub mod SenderRows
 pub mod ReceiverRows
 pub mod MetricsRows

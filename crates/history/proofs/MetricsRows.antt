@@ -25,7 +25,7 @@ use Rattle.metrics.specs.declared.ReportProcessed.{ReportProcessed}
 use Rattle.history.specs.Run.{Step}
 use Rattle.history.specs.Answers.{Answer, staying}
 use Rattle.history.specs.MetricsCalls.{MetricsNew, newMetrics, MetricsQuestion, metricsTold, MetricsCall, updating, metricsStep}
-use Rattle.history.proofs.Tellings as told
+use Rattle.history.specs.Tellings as told
 
 -- ---- a new record
 pub new-row : (κs : _) (a : _) (r : _) (s : _) → new.Learnt κs a r s → r ≡ newMetrics MetricsNew.new

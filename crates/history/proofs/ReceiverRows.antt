@@ -29,7 +29,7 @@ use Rattle.receiver.specs.declared.reports.ReceiverReportBuilt.{ReceiverReportB
 use Rattle.history.specs.Run.{Step}
 use Rattle.history.specs.Answers.{Answer, staying}
 use Rattle.history.specs.ReceiverCalls.{ReceiverNew, newReceiver, ReceiverQuestion, receiverTold, Frame, ReceiverCall, updating, receiverStep}
-use Rattle.history.proofs.Tellings as told
+use Rattle.history.specs.Tellings as told
 
 -- ---- a new record
 pub new-row : (κs : _) (a : _) (r : _) (s : _) → new.Learnt κs a r s → r ≡ newReceiver (ReceiverNew.new (a .0))

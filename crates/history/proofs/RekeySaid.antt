@@ -1,5 +1,5 @@
 -- A rekey does to a metrics record what document 01 says of it.
-use mathlib.Core.Path.{_≡_, refl}
+use mathlib.Core.Path.{refl}
 use lib.Ieee.{ofInt}
 use Rattle.metrics.specs.Updates.{rekeyed, rekeyOf}
 use Rattle.metrics.specs.declared.MmpMetrics.{MmpMetrics}

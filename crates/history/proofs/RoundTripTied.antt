@@ -1,11 +1,9 @@
 -- A metrics record's SRTT and RTTVAR are the estimates of the round trips that the calls on it took, the report that it keeps is the one that its log keeps,
 -- and its reports seen are those processed.
 use mathlib.Core.Path.{_≡_, refl, sym, _∙_, ap}
-use mathlib.Core.Bool.{Bool, true, false, cond, _&&_}
+use mathlib.Core.Bool.{Bool}
 use mathlib.Core.List.{List, [], _∷_, _++_, map-append, foldl, foldl-append}
-use Prim.Native.Nat.{ℕ, _+_, _*_, _-_}
-use lib.Dec.{ltb}
-use lib.Ieee.{Float}
+use Prim.Native.Nat.{ℕ, _+_, _*_}
 use Rattle.numbers.specs.RoundTrip.{multiples, no-estimate, estimateStep, estimateOf}
 use Rattle.wire.specs.declared.receiver_report.ReceiverReport.{ReceiverReport}
 use Rattle.algorithms.specs.Srtt.{estimateIn}
@@ -13,15 +11,16 @@ use Rattle.figures.specs.Stale as figures
 use Rattle.figures.specs.RoundTrips.{roundTrip}
 use Rattle.figures.specs.declared.RoundTrip.{RoundTrip}
 use Rattle.figures.specs.declared.RoundTrip.the-variants.{NoEcho, Sample, Zero, ArithFail}
+use Rattle.metrics.specs.Fields.{Tallies}
 use Rattle.metrics.specs.State.{savedIn}
-use Rattle.metrics.specs.Reports.{counted, sampled, tripTaken, taken, processOf}
-use Rattle.metrics.specs.Updates.{rekeyed, rekeyOf, withReverseRatio, reverseMoved, reversed, reverseOf}
+use Rattle.metrics.specs.Reports.{counted, sampled, rttUpdated, newerState, processOf}
+use Rattle.metrics.specs.Updates.{rekeyed, rekeyOf, reversed, reverseOf}
 use Rattle.metrics.specs.declared.MmpMetrics.{MmpMetrics}
-use Rattle.metrics.proofs.ReportsByCase.{process-refusal, by-case, measured-leaves}
-use Rattle.metrics.proofs.RoundTripsTaken.{fresh-estimate, fresh-saved, counted-estimator, counted-saved, taken-estimate, taken-saved, rekeyed-estimator, rekeyed-saved, reversed-leaves}
+use Rattle.metrics.proofs.ReportsByCase.{process-refusal, by-case, by-reverse, traffic-leaves}
+use Rattle.metrics.proofs.RoundTripsTaken.{fresh-estimate, fresh-saved, counted-estimator, counted-saved, newer-estimate, newer-saved, rekeyed-estimator, rekeyed-saved, reversed-leaves}
 use Rattle.history.specs.MetricsCalls.{MetricsNew, newMetrics, MetricsCall, metricsStep}
 use Rattle.history.specs.ExactRoundTrip as exact
-use Rattle.history.proofs.RoundTripsAgree.{savedAs, stale-agrees, trip-agrees}
+use Rattle.history.proofs.RoundTripsAgree.{savedAs, stale-agrees, estimate-agrees}
 
 pub record Tied (l : List MetricsCall) (m : MmpMetrics) : Type 0 where
   pub estimate : estimateIn (m .srtt) ≡ estimateOf (exact.roundTrips l)
@@ -37,8 +36,8 @@ new-tied MetricsNew.default = record { estimate = fresh-estimate; kept = fresh-s
 estimate-of-more : (ms more : List ℕ) → estimateOf (multiples 1000 (ms ++ more)) ≡ foldl estimateStep (estimateOf (multiples 1000 ms)) (multiples 1000 more)
 estimate-of-more ms more = ap estimateOf (map-append (λ (k : ℕ). 1000 * k) ms more) ∙ foldl-append estimateStep no-estimate (multiples 1000 ms) (multiples 1000 more)
 
-trip-seen : (m : MmpMetrics) (t : RoundTrip) → tripTaken m t .«reports_seen» ≡ m .«reports_seen»
-unfolding tripTaken sampled
+trip-seen : (m : MmpMetrics) (t : RoundTrip) → rttUpdated m t .«reports_seen» ≡ m .«reports_seen»
+unfolding rttUpdated sampled
 trip-seen m NoEcho = refl
 trip-seen m (Sample ms) = refl
 trip-seen m Zero = refl
@@ -48,9 +47,9 @@ counted-seen : (m : MmpMetrics) → counted m .«reports_seen» ≡ m .«reports
 unfolding counted
 counted-seen m = refl
 
-taken-seen : (m : MmpMetrics) (rr : ReceiverReport) (ours now : ℕ) → taken m rr ours now .«reports_seen» ≡ m .«reports_seen»
-unfolding taken
-taken-seen m rr ours now = measured-leaves (tripTaken m (roundTrip rr ours)) rr now .seen ∙ trip-seen m (roundTrip rr ours)
+taken-seen : (m : MmpMetrics) (rr : ReceiverReport) (ours now : ℕ) → newerState m rr ours now .«reports_seen» ≡ m .«reports_seen»
+unfolding newerState
+taken-seen m rr ours now = ap (λ (t : Tallies). t .seen) (traffic-leaves (rttUpdated m (roundTrip rr ours)) rr now .1) ∙ trip-seen m (roundTrip rr ours)
 
 -- a report, stale or taken
 process-tied : (l : List MetricsCall) (m : MmpMetrics) (rr : ReceiverReport) (ours now : ℕ) → processOf m rr ours now .refusal ≡ 0 → Tied l m →
@@ -67,11 +66,11 @@ process-tied l m rr ours now e h =
     (λ z s. record {
       estimate =
           rw (its s)
-          (taken-estimate (counted m) rr ours now
-          ∙ trip-agrees (estimateIn (counted m .srtt)) rr ours
+          (newer-estimate (counted m) rr ours now
+          ∙ estimate-agrees (estimateIn (counted m .srtt)) rr ours
           ∙ ap (λ e. foldl estimateStep e (multiples 1000 (exact.tripMs rr ours))) (ap estimateIn (counted-estimator m) ∙ h .estimate)
           ∙ sym (estimate-of-more (exact.tripsMs l) (exact.tripMs rr ours)));
-      kept = rw (its s) (taken-saved (counted m) rr ours now);
+      kept = rw (its s) (newer-saved (counted m) rr ours now);
       seen = taken-seen (counted m) rr ours now ∙ counted-seen m ∙ ap (λ (n : ℕ). n + 1) (h .seen);
     })
   where
@@ -83,12 +82,8 @@ unfolding rekeyed
 rekeyed-seen m = refl
 
 reversed-seen : (m : MmpMetrics) (packets highest : ℕ) → reversed m packets highest .«reports_seen» ≡ m .«reports_seen»
-unfolding reversed reverseMoved
-reversed-seen m packets highest = go (m .«has_prev_reverse» && ltb 0 (highest - m .«prev_reverse_highest»)) _
-  where
-    go : (b : Bool) (ratio : Float) → cond b (withReverseRatio m ratio) m .«reports_seen» ≡ m .«reports_seen»
-    go true ratio = refl
-    go false ratio = refl
+unfolding reversed
+reversed-seen m packets highest = by-reverse (λ n. n .«reports_seen» ≡ m .«reports_seen») m packets highest (λ h. refl) refl
 
 -- every accepted call
 pub tied-next : (c : MetricsCall) (l : List MetricsCall) (m : MmpMetrics) → metricsStep c m .refusal ≡ 0 → Tied l m → Tied (c ∷ l) (metricsStep c m .state)

@@ -1,8 +1,8 @@
 -- The stale test and the round trip that history's exact side reads off a report are those of `figures`.
-use mathlib.Core.Path.{_≡_, refl, ap, ap₂}
+use mathlib.Core.Path.{_≡_, refl, ap₂}
 use mathlib.Core.Bool.{Bool, true, false, cond, _&&_, _||_}
 use mathlib.Core.List.{List, [], _∷_, foldl}
-use Prim.Native.Nat.{ℕ, _+_, _-_, _<_, _≤_}
+use Prim.Native.Nat.{ℕ, _-_, _<_, _≤_}
 use native.Mathlib.Nat.{pos-of-ne-zero}
 use native.Mathlib.Omega.{arith}
 use lib.Dec.{ltb, eqb}
@@ -11,6 +11,7 @@ use Rattle.numbers.specs.RoundTrip.{multiples, Estimate, estimateStep}
 use Rattle.wire.specs.declared.receiver_report.ReceiverReport.{ReceiverReport}
 use Rattle.figures.specs.Stale as figures
 use Rattle.figures.specs.RoundTrips.{sendDone, roundTrip}
+use Rattle.figures.specs.declared.RoundTrip.{RoundTrip}
 use Rattle.figures.specs.declared.RoundTrip.the-variants.{NoEcho, Sample, Zero, ArithFail}
 use Rattle.metrics.proofs.RoundTripsTaken.{afterTrip}
 use Rattle.history.specs.ExactRoundTrip as exact
@@ -46,10 +47,16 @@ stale-agrees (exact.report k) rr = ap₂ (λ (a b : Bool). a || b) (five ltb one
         P (test (rr .«highest_counter») (k .«highest_counter»)) (test (rr .«cumulative_packets_recv») (k .«cumulative_packets_recv»)) (test (rr .«cumulative_bytes_recv») (k .«cumulative_bytes_recv»)) (test (rr .«ecn_ce_count») (k .«ecn_ce_count»)) (test (rr .«cumulative_reorder_count») (k .«cumulative_reorder_count»))
     five test law = law _ _ _ _ _
 
--- a sample's milliseconds are one round trip of 1000 times as many µs; any other echo gives none
-pub trip-agrees : (e : Estimate) (rr : ReceiverReport) (ours : ℕ) → afterTrip e (roundTrip rr ours) ≡ foldl estimateStep e (multiples 1000 (exact.tripMs rr ours))
+-- the round trip that a report gives, if it is a sample
+abbrev pub tripIn : RoundTrip → List ℕ
+tripIn NoEcho = []
+tripIn (Sample ms) = ms ∷ []
+tripIn Zero = []
+tripIn ArithFail = []
+
+pub trip-agrees : (rr : ReceiverReport) (ours : ℕ) → exact.tripMs rr ours ≡ tripIn (roundTrip rr ours)
 unfolding roundTrip exact.tripMs
-trip-agrees e rr ours =
+trip-agrees rr ours =
     go (eqb echo 0) (ltb ours done) (eqb ours done)
     (eqb-true echo 0) (eqb-false echo 0) (ltb-true ours done) (ltb-false ours done) (eqb-true ours done) (eqb-false ours done)
   where
@@ -59,10 +66,10 @@ trip-agrees e rr ours =
     done : ℕ
     done = sendDone rr
 
-    given : Bool → Estimate
-    given b = foldl estimateStep e (multiples 1000 (cond b ((ours - done) ∷ []) []))
+    given : Bool → List ℕ
+    given b = cond b ((ours - done) ∷ []) []
 
-    none : (a : Bool) → ltb done ours ≡ false → e ≡ given (a && ltb done ours)
+    none : (a : Bool) → ltb done ours ≡ false → given (a && ltb done ours) ≡ []
     none true h = rw h
     none false h = refl
 
@@ -74,7 +81,7 @@ trip-agrees e rr ours =
         (b ≡ false → done ≤ ours) →
         (c ≡ true → ours ≡ done) →
         (c ≡ false → ours ≡ done → ⊥) →
-        afterTrip e (cond a NoEcho (cond b ArithFail (cond c Zero (Sample (ours - done))))) ≡ given (ltb 0 echo && ltb done ours)
+        given (ltb 0 echo && ltb done ours) ≡ tripIn (cond a NoEcho (cond b ArithFail (cond c Zero (Sample (ours - done)))))
     go true b c no-echo some early late same other = let h = no-echo refl in rw (le-ltb 0 echo (omega arith))
     go false true c no-echo some early late same other = none (ltb 0 echo) (le-ltb done ours (let h = early refl in omega arith))
     go false false true no-echo some early late same other = none (ltb 0 echo) (le-ltb done ours (let h = same refl in omega arith))
@@ -82,28 +89,12 @@ trip-agrees e rr ours =
         let past : done < ours = let a = late refl in let b = other refl in omega arith in
         rw (lt-ltb 0 echo (pos-of-ne-zero (some refl)), lt-ltb done ours past)
 
--- a sample is the round trip
-pub sample-agrees : (rr : ReceiverReport) (ours ms : ℕ) → roundTrip rr ours ≡ Sample ms → exact.tripMs rr ours ≡ ms ∷ []
-unfolding roundTrip exact.tripMs
-sample-agrees rr ours ms = go (eqb echo 0) (ltb ours done) (eqb ours done) (eqb-false echo 0) (ltb-false ours done) (eqb-false ours done)
-  where
-    echo : ℕ
-    echo = rr .«timestamp_echo»
+-- a sample's milliseconds are one round trip of 1000 times as many µs; any other echo gives none
+step-agrees : (e : Estimate) (t : RoundTrip) → afterTrip e t ≡ foldl estimateStep e (multiples 1000 (tripIn t))
+step-agrees e NoEcho = refl
+step-agrees e (Sample ms) = refl
+step-agrees e Zero = refl
+step-agrees e ArithFail = refl
 
-    done : ℕ
-    done = sendDone rr
-
-    go :
-        (a b c : Bool) →
-        (a ≡ false → echo ≡ 0 → ⊥) →
-        (b ≡ false → done ≤ ours) →
-        (c ≡ false → ours ≡ done → ⊥) →
-        cond a NoEcho (cond b ArithFail (cond c Zero (Sample (ours - done)))) ≡ Sample ms →
-        cond (ltb 0 echo && ltb done ours) ((ours - done) ∷ []) [] ≡ ms ∷ []
-    go true b c some late other e = let z : _≡_ {A = ℕ} 0 1 = cc in absurd (omega arith)
-    go false true c some late other e = let z : _≡_ {A = ℕ} 0 1 = cc in absurd (omega arith)
-    go false false true some late other e = let z : _≡_ {A = ℕ} 0 1 = cc in absurd (omega arith)
-    go false false false some late other e =
-        let past : done < ours = let a = late refl in let b = other refl in omega arith in
-        let same : ours - done ≡ ms = cc in
-        rw (lt-ltb 0 echo (pos-of-ne-zero (some refl)), lt-ltb done ours past) (ap (λ (n : ℕ). n ∷ []) same)
+pub estimate-agrees : (e : Estimate) (rr : ReceiverReport) (ours : ℕ) → afterTrip e (roundTrip rr ours) ≡ foldl estimateStep e (multiples 1000 (exact.tripMs rr ours))
+estimate-agrees e rr ours = rw (trip-agrees rr ours) (step-agrees e (roundTrip rr ours))

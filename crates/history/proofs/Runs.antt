@@ -15,14 +15,14 @@ use Rattle.history.specs.Run.{
   all-cons,
   noted,
   entry,
-  written,
-  reached,
-  accepted,
+  writtenFrom,
+  reachedFrom,
+  acceptedFrom,
   notFull,
   Left,
   Shown,
-  left,
-  struckOut,
+  leftFrom,
+  struckFrom,
   callsLeft,
   asTheyWere,
   restored,
@@ -31,7 +31,7 @@ use Rattle.history.specs.Run.{
 module _ (𝓜 : Machine)
     -- a refused call moves nothing
     (still : (c : 𝓜 .Call) (w : 𝓜 .World) → 𝓜 .step c w .refusal ≢ 0 → 𝓜 .step c w .state ≡ w)
-    -- what ties the records to what is remembered, and every accepted call keeps it
+    -- what ties the records to the log, and every accepted call keeps it
     (Tied : 𝓜 .Log → 𝓜 .World → Type 0)
     (tied-next : (c : 𝓜 .Call) (x : 𝓜 .Log) (w : 𝓜 .World) → 𝓜 .Fits c → 𝓜 .step c w .refusal ≡ 0 → Tied x w → Tied (𝓜 .note c x) (𝓜 .step c w .state)) where
   tied-step : (c : 𝓜 .Call) (x : 𝓜 .Log) (w : 𝓜 .World) → 𝓜 .Fits c → Tied x w → Tied (noted 𝓜 c (𝓜 .step c w .refusal) x) (𝓜 .step c w .state)
@@ -41,8 +41,8 @@ module _ (𝓜 : Machine)
       go zero e = tied-next c x w f e t
       go (suc n) e = rw (still c w (λ z. absurd (omega arith))) t
 
-  pub tied-run : (h : List (𝓜 .Call)) {x : 𝓜 .Log} {w : 𝓜 .World} → All (𝓜 .Fits) h → Tied x w → Tied (accepted 𝓜 x (written 𝓜 w x h)) (reached 𝓜 w h)
-  unfolding written reached accepted
+  pub tied-run : (h : List (𝓜 .Call)) {x : 𝓜 .Log} {w : 𝓜 .World} → All (𝓜 .Fits) h → Tied x w → Tied (acceptedFrom 𝓜 x (writtenFrom 𝓜 w x h)) (reachedFrom 𝓜 w h)
+  unfolding writtenFrom reachedFrom acceptedFrom
   tied-run [] fs t = t
   tied-run (c ∷ h) {x} {w} (all-cons f fs) t = tied-run h fs (tied-step c x w f t)
 
@@ -53,8 +53,8 @@ module _ (𝓜 : Machine)
       (h : List (𝓜 .Call)) {x : 𝓜 .Log} {w : 𝓜 .World} →
       All (𝓜 .Fits) h →
       Tied x w →
-      All P (written 𝓜 w x h)
-  unfolding written
+      All P (writtenFrom 𝓜 w x h)
+  unfolding writtenFrom
   all-run P one [] fs t = all-nil
   all-run P one (c ∷ h) {x} {w} (all-cons f fs) t = all-cons (one c x w t) (all-run P one h fs (tied-step c x w f t))
 
@@ -66,8 +66,8 @@ module _ (𝓜 : Machine)
       (moved-alike : (c : 𝓜 .Call) (t : Struck) (w v : 𝓜 .World) → Like t w v → 𝓜 .step c w .refusal ≡ 0 → 𝓜 .step c v .refusal ≡ 0 → Like t (𝓜 .step c w .state) (𝓜 .step c v .state))
       (idle : (c : 𝓜 .Call) (t : Struck) (x : 𝓜 .Log) (w v : 𝓜 .World) → Tied x w → Like t w v → may (entry 𝓜 c w x) ≡ true → Like (more c t) (𝓜 .step c w .state) v) where
     pub record Same (v w : 𝓜 .World) (y : 𝓜 .Log) (ls : List (Left 𝓜 Struck)) (t : Struck) (h : List (𝓜 .Call)) : Type 0 where
-      pub answers : restored 𝓜 restore ls (written 𝓜 v y (callsLeft 𝓜 ls)) ≡ asTheyWere 𝓜 ls
-      pub records : Like t (reached 𝓜 w h) (reached 𝓜 v (callsLeft 𝓜 ls))
+      pub answers : restored 𝓜 restore ls (writtenFrom 𝓜 v y (callsLeft 𝓜 ls)) ≡ asTheyWere 𝓜 ls
+      pub records : Like t (reachedFrom 𝓜 w h) (reachedFrom 𝓜 v (callsLeft 𝓜 ls))
 
     state-alike : (c : 𝓜 .Call) (t : Struck) (w v : 𝓜 .World) → Like t w v → 𝓜 .step c v .refusal ≡ 𝓜 .step c w .refusal → Like t (𝓜 .step c w .state) (𝓜 .step c v .state)
     state-alike c t w v l e = go (𝓜 .step c w .refusal) refl e
@@ -82,9 +82,9 @@ module _ (𝓜 : Machine)
         All (𝓜 .Fits) h →
         Tied x w →
         Like t w v →
-        All (notFull 𝓜) (written 𝓜 w x h) →
-        Same v w y (left 𝓜 more may places t (written 𝓜 w x h)) (struckOut 𝓜 more may places t (written 𝓜 w x h)) h
-    unfolding written reached left struckOut restored
+        All (notFull 𝓜) (writtenFrom 𝓜 w x h) →
+        Same v w y (leftFrom 𝓜 more may places t (writtenFrom 𝓜 w x h)) (struckFrom 𝓜 more may places t (writtenFrom 𝓜 w x h)) h
+    unfolding writtenFrom reachedFrom leftFrom struckFrom restored
     strike-run [] places t x y w v fs tied l full = record { answers = refl; records = l }
     strike-run (c ∷ h) places t x y w v (all-cons f fs) tied l (all-cons ne full) =
         go (places 0 && may (entry 𝓜 c w x)) refl
@@ -92,13 +92,13 @@ module _ (𝓜 : Machine)
         (λ l′. strike-run h (λ i. places (suc i)) t (noted 𝓜 c (𝓜 .step c w .refusal) x) (noted 𝓜 c (𝓜 .step c v .refusal) y) (𝓜 .step c w .state) (𝓜 .step c v .state) fs (tied-step c x w f tied) l′ full)
       where
         rest : List (Entry 𝓜)
-        rest = written 𝓜 (𝓜 .step c w .state) (noted 𝓜 c (𝓜 .step c w .refusal) x) h
+        rest = writtenFrom 𝓜 (𝓜 .step c w .state) (noted 𝓜 c (𝓜 .step c w .refusal) x) h
 
         leftBy : Struck → List (Left 𝓜 Struck)
-        leftBy s = left 𝓜 more may (λ i. places (suc i)) s rest
+        leftBy s = leftFrom 𝓜 more may (λ i. places (suc i)) s rest
 
         struckBy : Struck → Struck
-        struckBy s = struckOut 𝓜 more may (λ i. places (suc i)) s rest
+        struckBy s = struckFrom 𝓜 more may (λ i. places (suc i)) s rest
 
         go :
             (b : Bool) →

@@ -1,12 +1,11 @@
 -- A metrics record that has seen fewer reports answers and moves as it would have otherwise, and its count stays lower by as many.
-use mathlib.Core.Path.{_≡_, refl, sym, _∙_, ap}
+use mathlib.Core.Path.{_≡_, refl, sym, subst, _∙_, ap}
 use mathlib.Core.Logic.{_≢_}
-use mathlib.Core.Bool.{Bool, true, false, cond, _&&_}
+use mathlib.Core.Bool.{Bool, true, false, _&&_}
 use mathlib.Core.List.{List, [], _∷_}
-use Prim.Native.Nat.{ℕ, _+_, _-_, _≤_, _^_}
+use Prim.Native.Nat.{ℕ, _+_, _≤_, _^_}
 use native.Mathlib.Omega.{arith}
-use lib.Dec.{leb, ltb}
-use lib.Ieee.{Float}
+use lib.Dec.{leb}
 use borrow.Author.Tests.{le-leb, leb-true, lt-ltb, ltb-true}
 use Rattle.refusals.specs.Answers.{answerU64, answerOptionU32, answerOptionF64}
 use Rattle.refusals.specs.Questions.{question, firstNo}
@@ -17,10 +16,10 @@ use Rattle.figures.specs.Stale.{Saved, stale}
 use Rattle.figures.specs.RoundTrips.{roundTrip}
 use Rattle.figures.specs.declared.RoundTrip.{RoundTrip}
 use Rattle.figures.specs.declared.RoundTrip.the-variants.{NoEcho, Sample, Zero, ArithFail}
-use Rattle.metrics.specs.Fields.{withSeen, withReverse}
+use Rattle.metrics.specs.Fields.{Tallies, talliesIn, withSeen}
 use Rattle.metrics.specs.State.{trendsOk, ratiosOk, keepsRule, savedIn, refusalOf}
-use Rattle.metrics.specs.Reports.{counted, sampled, tripTaken, taken, refused, processRefusal, processOf}
-use Rattle.metrics.specs.Updates.{rekeyed, rekeyOf, withReverseRatio, reverseMoved, reversed, reverseOf}
+use Rattle.metrics.specs.Reports.{counted, sampled, rttUpdated, newerState, processRefusal, processOf}
+use Rattle.metrics.specs.Updates.{rekeyed, rekeyOf, reversed, reverseOf}
 use Rattle.metrics.specs.Accessors.{
   countersKept,
   srttMsOf,
@@ -39,8 +38,8 @@ use Rattle.metrics.specs.Accessors.{
 }
 use Rattle.metrics.specs.declared.MmpMetrics.{MmpMetrics}
 use Rattle.metrics.specs.declared.ReportProcessed.{ReportProcessed}
-use Rattle.metrics.proofs.ReportsByCase.{process-refusal, refused-is, stale-is, taken-is, by-case, measured-leaves}
-use Rattle.metrics.proofs.SeenApart.{taken-apart, outcome-apart, rekeyed-apart, reversed-apart}
+use Rattle.metrics.proofs.ReportsByCase.{process-refusal, refused-is, stale-is, newer-is, by-case, by-reverse, traffic-leaves}
+use Rattle.metrics.proofs.SeenApart.{newer-apart, outcome-apart, rekeyed-apart, reversed-apart}
 use Rattle.metrics.proofs.QuestionsAnswered.{kept}
 use Rattle.history.specs.Answers.{Fact, Answer, Told}
 use Rattle.history.specs.MetricsCalls.{MetricsQuestion, metricsTold, MetricsCall, metricsStep}
@@ -50,17 +49,9 @@ use Rattle.history.specs.NoCreep.{restoreMetrics}
 use Rattle.history.proofs.RoundTripsAgree.{stale-agrees}
 use Rattle.history.proofs.RoundTripTied.{Tied}
 
--- what a record has counted: samples, zeros and failures together, and reports seen
-pub record Tallies : Type 0 where
-  pub echoes : ℕ
-  pub seen : ℕ
-
-abbrev pub talliesIn : MmpMetrics → Tallies
-talliesIn m = record { echoes = m .«rtt_samples» + m .«rtt_zero» + m .«rtt_arith_fail»; seen = m .«reports_seen» }
-
--- k can stand for reports seen: it is d less, and no less than the echoes
+-- k can stand for reports seen: it is d less, and no less than samples, zeros and failures together
 pub record Low (d k : ℕ) (t : Tallies) : Type 0 where
-  pub above : t .echoes ≤ k
+  pub above : t .samples + t .zeros + t .failures ≤ k
   pub less : k + d ≡ t .seen
 
 -- n is m, having seen d reports fewer
@@ -103,26 +94,20 @@ module _ {d : ℕ} where
           rw (lt-ltb (k + 1) (2 ^ 64) (let b = h .less in omega arith))
 
   -- ---- what an accepted call leaves counted
-  counted-low : (m : MmpMetrics) (t : RoundTrip) (k : ℕ) → Low d k (talliesIn m) → Low d (k + 1) (talliesIn (tripTaken (counted m) t))
-  unfolding counted tripTaken sampled
+  counted-low : (m : MmpMetrics) (t : RoundTrip) (k : ℕ) → Low d k (talliesIn m) → Low d (k + 1) (talliesIn (rttUpdated (counted m) t))
+  unfolding counted rttUpdated sampled
   counted-low m NoEcho k h = let a = h .above in let b = h .less in record { above = omega arith; less = omega arith }
   counted-low m (Sample ms) k h = let a = h .above in let b = h .less in record { above = omega arith; less = omega arith }
   counted-low m Zero k h = let a = h .above in let b = h .less in record { above = omega arith; less = omega arith }
   counted-low m ArithFail k h = let a = h .above in let b = h .less in record { above = omega arith; less = omega arith }
 
-  taken-low : (m : MmpMetrics) (rr : ReceiverReport) (ours now k : ℕ) → Low d k (talliesIn m) → Low d (k + 1) (talliesIn (taken (counted m) rr ours now))
-  unfolding taken
-  taken-low m rr ours now k h =
-      let left = measured-leaves (tripTaken (counted m) (roundTrip rr ours)) rr now in
-      rw (left .samples, left .zeros, left .failures, left .seen) (counted-low m (roundTrip rr ours) k h)
+  taken-low : (m : MmpMetrics) (rr : ReceiverReport) (ours now k : ℕ) → Low d k (talliesIn m) → Low d (k + 1) (talliesIn (newerState (counted m) rr ours now))
+  unfolding newerState
+  taken-low m rr ours now k h = subst (Low d (k + 1)) (sym (traffic-leaves (rttUpdated (counted m) (roundTrip rr ours)) rr now .1)) (counted-low m (roundTrip rr ours) k h)
 
   reversed-low : (m : MmpMetrics) (packets highest k : ℕ) → Low d k (talliesIn m) → Low d k (talliesIn (reversed m packets highest))
-  unfolding reversed reverseMoved
-  reversed-low m packets highest k h = go (m .«has_prev_reverse» && ltb 0 (highest - m .«prev_reverse_highest»)) _
-    where
-      go : (b : Bool) (ratio : Float) → Low d k (talliesIn (withReverse (cond b (withReverseRatio m ratio) m) packets highest true))
-      go true ratio = record { above = h .above; less = h .less }
-      go false ratio = record { above = h .above; less = h .less }
+  unfolding reversed
+  reversed-low m packets highest k h = by-reverse (λ n. Low d k (talliesIn n)) m packets highest (λ s. h) h
 
   -- ---- a report, refused, stale or taken alike
   module _ (m : MmpMetrics) (rr : ReceiverReport) (ours now k : ℕ) (h : Low d k (talliesIn m)) where
@@ -136,7 +121,7 @@ module _ {d : ℕ} where
           by-case m rr ours now (λ p. fewer .outcome ≡ p .outcome)
           (λ ne. ap (λ (p : ReportProcessed). p .outcome) (refused-is (withSeen m k) rr ours now (λ z. ne (sym e ∙ z))))
           (λ z s. ap (λ (p : ReportProcessed). p .outcome) (stale-is (withSeen m k) rr ours now (e ∙ z) s))
-          (λ z s. ap (λ (p : ReportProcessed). p .outcome) (taken-is (withSeen m k) rr ours now (e ∙ z) s) ∙ outcome-apart (counted m) (k + 1) rr ours now)
+          (λ z s. ap (λ (p : ReportProcessed). p .outcome) (newer-is (withSeen m k) rr ours now (e ∙ z) s) ∙ outcome-apart (counted m) (k + 1) rr ours now)
 
       state-seen : processRefusal m now ≡ 0 → Like d (processOf m rr ours now .state) (fewer .state)
       unfolding savedIn counted
@@ -150,7 +135,7 @@ module _ {d : ℕ} where
           })
           (λ z s. record {
             k = k + 1;
-            same = ap (λ (p : ReportProcessed). p .state) (taken-is (withSeen m k) rr ours now (e ∙ z) s) ∙ taken-apart (counted m) (k + 1) rr ours now;
+            same = ap (λ (p : ReportProcessed). p .state) (newer-is (withSeen m k) rr ours now (e ∙ z) s) ∙ newer-apart (counted m) (k + 1) rr ours now;
             low = taken-low m rr ours now k h;
           })
 

@@ -24,7 +24,7 @@ use Rattle.sender.specs.declared.backoff.SendSuccess.{SendSuccess}
 use Rattle.history.specs.Run.{Step}
 use Rattle.history.specs.Answers.{Fact, Answer, staying}
 use Rattle.history.specs.SenderCalls.{SenderNew, newSender, SenderQuestion, senderTold, SenderCall, updating, senderStep}
-use Rattle.history.proofs.Tellings as told
+use Rattle.history.specs.Tellings as told
 
 -- ---- a new record
 pub new-row : (κs : _) (a : _) (r : _) (s : _) → new.Learnt κs a r s → r ≡ newSender SenderNew.new

@@ -14,7 +14,7 @@ use Rattle.history.specs.Ends.{EndNew, EndCall, on-sender, on-receiver, 
 
 -- "A row of eleven yeses must be answered": accepted, or 10
 pub data Served : ℕ → Type 0 where
-  accepted : Served 0
+  answered : Served 0
   counter-full : Served 10
 
 -- 2. "every clock reading, interval and interval bound at most 2^48 − 1 ms"

@@ -9,52 +9,52 @@ use Rattle.history.specs.ReceiverCalls.{ReceiverCall}
 
 -- ---- what a call is to the jitter
 -- a sampled frame with its timestamp and clock, a rekey with its clock, or nothing
-pub data Heard : Type 0 where
-  sampled : ℕ → ℕ → Heard
-  rekeyed : ℕ → Heard
-  unheard : Heard
+pub data Event : Type 0 where
+  sampled : ℕ → ℕ → Event
+  rekeyed : ℕ → Event
+  no-event : Event
 
-abbrev pub heard : ReceiverCall → Heard
-heard (ReceiverCall.«record_frame» f true) = sampled (f .timestamp) (f .now)
-heard (ReceiverCall.«record_frame» f false) = unheard
-heard (ReceiverCall.«record_recv» f) = sampled (f .timestamp) (f .now)
-heard (ReceiverCall.«reset_for_rekey» now) = rekeyed now
-heard (ReceiverCall.«build_report» times delays now) = unheard
-heard (ReceiverCall.«update_report_interval_from_srtt» srtt) = unheard
-heard (ReceiverCall.«update_report_interval_with_bounds» srtt lo hi) = unheard
-heard (ReceiverCall.ask q) = unheard
+abbrev pub eventOf : ReceiverCall → Event
+eventOf (ReceiverCall.«record_frame» f true) = sampled (f .timestamp) (f .now)
+eventOf (ReceiverCall.«record_frame» f false) = no-event
+eventOf (ReceiverCall.«record_recv» f) = sampled (f .timestamp) (f .now)
+eventOf (ReceiverCall.«reset_for_rekey» now) = rekeyed now
+eventOf (ReceiverCall.«build_report» times delays now) = no-event
+eventOf (ReceiverCall.«update_report_interval_from_srtt» srtt) = no-event
+eventOf (ReceiverCall.«update_report_interval_with_bounds» srtt lo hi) = no-event
+eventOf (ReceiverCall.ask q) = no-event
 
 -- ---- grace: "A sample before the rekey deadline (rekey time + 15,000) updates neither jitter nor trend .. The first sample at or past it clears the grace"
 pub data Grace : Type 0 where
   no-grace : Grace
   until : ℕ → Grace
 
-unfoldable pub before : Grace → ℕ → Bool
-before no-grace now = false
-before (until deadline) now = ltb now deadline
+unfoldable pub beforeDeadline : Grace → ℕ → Bool
+beforeDeadline no-grace now = false
+beforeDeadline (until deadline) now = ltb now deadline
 
-unfoldable pub graceBy : Heard → Grace → Grace
-graceBy (sampled timestamp now) g = cond (before g now) g no-grace
+unfoldable pub graceBy : Event → Grace → Grace
+graceBy (sampled timestamp now) g = cond (beforeDeadline g now) g no-grace
 graceBy (rekeyed now) g = until (now + 15000)
-graceBy unheard g = g
+graceBy no-event g = g
 
 unfoldable pub graceAfter : List ReceiverCall → Grace
 graceAfter [] = no-grace
-graceAfter (c ∷ l) = graceBy (heard c) (graceAfter l)
+graceAfter (c ∷ l) = graceBy (eventOf c) (graceAfter l)
 
 -- ---- the frame that the next one is measured from: the last one sampled, in grace too ("but does update the echo"), since the last rekey
 pub data Last : Type 0 where
   no-frame : Last
   frame : ℕ → ℕ → Last
 
-unfoldable pub lastBy : Heard → Last → Last
+unfoldable pub lastBy : Event → Last → Last
 lastBy (sampled timestamp now) f = frame now timestamp
 lastBy (rekeyed now) f = no-frame
-lastBy unheard f = f
+lastBy no-event f = f
 
 unfoldable pub lastAfter : List ReceiverCall → Last
 lastAfter [] = no-frame
-lastAfter (c ∷ l) = lastBy (heard c) (lastAfter l)
+lastAfter (c ∷ l) = lastBy (eventOf c) (lastAfter l)
 
 -- ---- D
 -- what is left of z over whole spans of 2^32: 0 to 2^32 − 1
@@ -75,12 +75,12 @@ unfoldable pub differenceFrom : Last → ℕ → ℕ → List ℤ
 differenceFrom no-frame now timestamp = []
 differenceFrom (frame recv sent) now timestamp = difference recv sent now timestamp ∷ []
 
--- ---- the differences since the last rekey, the first one first
-unfoldable pub differencesBy : Heard → Grace → Last → List ℤ → List ℤ
-differencesBy (sampled timestamp now) g f ds = cond (before g now) ds (ds ++ differenceFrom f now timestamp)
+-- ---- the differences since the last rekey
+unfoldable pub differencesBy : Event → Grace → Last → List ℤ → List ℤ
+differencesBy (sampled timestamp now) g f ds = cond (beforeDeadline g now) ds (ds ++ differenceFrom f now timestamp)
 differencesBy (rekeyed now) g f ds = []
-differencesBy unheard g f ds = ds
+differencesBy no-event g f ds = ds
 
 unfoldable pub differences : List ReceiverCall → List ℤ
 differences [] = []
-differences (c ∷ l) = differencesBy (heard c) (graceAfter l) (lastAfter l) (differences l)
+differences (c ∷ l) = differencesBy (eventOf c) (graceAfter l) (lastAfter l) (differences l)

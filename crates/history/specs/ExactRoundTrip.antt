@@ -51,7 +51,7 @@ staleCall (MetricsCall.«update_reverse_delivery» packets highest) l = false
 staleCall MetricsCall.«reports_seen» l = false
 staleCall (MetricsCall.ask q) l = false
 
--- ---- the round trips, the first one first
+-- ---- the round trips
 -- our time less echo and dwell, in whole ms: with an echo, and where our time is past both ("10 ms / zero / arithmetic failure")
 unfoldable pub tripMs : ReceiverReport → ℕ → List ℕ
 tripMs rr ours =

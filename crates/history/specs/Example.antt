@@ -2,7 +2,7 @@
 -- and frames before a rekey, in its grace and after it, then a report built, encoded and decoded. `Worked` says what comes of it; proofs/ computes it.
 -- Definitions only.
 use mathlib.Core.Path.{_≡_}
-use mathlib.Core.Bool.{Bool, true, false}
+use mathlib.Core.Bool.{true, false}
 use mathlib.Core.List.{List, [], _∷_, _++_, map}
 use Prim.Native.Nat.{ℕ}
 use lib.IntN.{pos, negsuc}
@@ -95,11 +95,11 @@ refusals h = map (λ (n : Entry ends). n .refusal) (written begin h)
 abbrev pub metrics : MmpMetrics
 metrics = reached begin reports .west .metrics
 
-abbrev pub taken : List MetricsCall
-taken = accepted begin reports .west .metrics
+abbrev pub acceptedReports : List MetricsCall
+acceptedReports = accepted begin reports .west .metrics
 
-abbrev pub received : List ReceiverCall
-received = accepted begin frames .east .receiver
+abbrev pub acceptedFrames : List ReceiverCall
+acceptedFrames = accepted begin frames .east .receiver
 
 -- a report built, encoded into 68 bytes and decoded: refusal, highest counter, echo, dwell and jitter
 abbrev pub reportIn : Answer → List ℕ
@@ -117,16 +117,16 @@ pub record Worked : Type 0 where
   -- the five calls with reports
   pub reports-accepted : refusals reports ≡ 0 ∷ 0 ∷ 0 ∷ 0 ∷ 0 ∷ []
   pub second-stale : map staleEntry (written begin reports) ≡ false ∷ true ∷ false ∷ false ∷ false ∷ []
-  pub trips : roundTrips taken ≡ 10000 ∷ 18000 ∷ 10000 ∷ []
+  pub trips : roundTrips acceptedReports ≡ 10000 ∷ 18000 ∷ 10000 ∷ []
   -- S = 10875 µs and V = 4562.5 µs; SRTT and RTTVAR
-  pub averages : averageOf (roundTrips taken) ≡ average 3 5568000 2336000
+  pub averages : averageOf (roundTrips acceptedReports) ≡ average 3 5568000 2336000
   pub smoothed : recorded (metrics .srtt) ≡ estimate 10875 4563
   pub seen : metrics .«reports_seen» ≡ 4
   -- the five calls with frames: 3000 µs before the rekey, 7000 µs after it
   pub frames-accepted : refusals frames ≡ 0 ∷ 0 ∷ 0 ∷ 0 ∷ 0 ∷ []
   pub before-rekey : differences (accepted begin twoFrames .east .receiver) ≡ pos 3000 ∷ []
-  pub after-rekey : differences received ≡ negsuc 6999 ∷ []
+  pub after-rekey : differences acceptedFrames ≡ negsuc 6999 ∷ []
   -- A = 7000/16 = 437.5 µs
-  pub average-then : jitterAverage received ≡ record { n = 1; top = 7000 }
+  pub average-then : jitterAverage acceptedFrames ≡ record { n = 1; top = 7000 }
   -- the report built then says 437 µs
   pub reported : map (λ (n : Entry ends). reportIn (n .answer)) (written begin framesAndReport) ≡ [] ∷ [] ∷ [] ∷ [] ∷ [] ∷ (0 ∷ 2 ∷ 217 ∷ 100 ∷ 437 ∷ []) ∷ []

@@ -1,5 +1,6 @@
 pub mod Run
 pub mod Answers
+pub mod Tellings
 pub mod SenderCalls
 pub mod ReceiverCalls
 pub mod MetricsCalls

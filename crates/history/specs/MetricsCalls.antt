@@ -22,7 +22,8 @@ use Rattle.metrics.specs.Accessors.{
 use Rattle.metrics.specs.declared.MmpMetrics.{MmpMetrics}
 use Rattle.metrics.specs.declared.MetricsUpdate.{MetricsUpdate}
 use Rattle.history.specs.Run.{Step}
-use Rattle.history.specs.Answers.{Fact, Answer, Told, staying}
+use Rattle.history.specs.Answers.{Answer, Told, staying}
+use Rattle.history.specs.Tellings as told
 
 -- ---- a new record: each constructor
 pub data MetricsNew : Type 0 where
@@ -39,19 +40,19 @@ pub data MetricsQuestion : Type 0 where
   «rtt_samples» «rtt_zero» «rtt_arith_fail» «last_rtt_ms» : MetricsQuestion
 
 unfoldable pub metricsTold : MetricsQuestion → MmpMetrics → Told
-metricsTold «keeps_rule» m = record { refusal = 0; fact = Fact.yes-or-no (keepsRule m) }
-metricsTold «srtt_ms» m = record { refusal = srttMsOf m .refusal; fact = Fact.optional-float (srttMsOf m .value) }
-metricsTold «loss_rate» m = record { refusal = lossRateOf m .refusal; fact = Fact.float (lossRateOf m .value) }
-metricsTold «smoothed_loss» m = record { refusal = smoothedLossOf m .refusal; fact = Fact.optional-float (smoothedLossOf m .value) }
-metricsTold «quality_index» m = record { refusal = qualityIndexOf m .refusal; fact = Fact.optional-float (qualityIndexOf m .value) }
-metricsTold «smoothed_etx» m = record { refusal = smoothedEtxOf m .refusal; fact = Fact.optional-float (smoothedEtxOf m .value) }
-metricsTold «goodput_bps» m = record { refusal = goodputBpsOf m .refusal; fact = Fact.float (goodputBpsOf m .value) }
-metricsTold «last_ecn_ce_count» m = record { refusal = lastEcnCeCountOf m .refusal; fact = Fact.number (lastEcnCeCountOf m .value) }
-metricsTold «rr_counters» m = record { refusal = rrCountersOf m .refusal; fact = Fact.counters (rrCountersOf m .value) }
-metricsTold «rtt_samples» m = record { refusal = rttSamplesOf m .refusal; fact = Fact.number (rttSamplesOf m .value) }
-metricsTold «rtt_zero» m = record { refusal = rttZeroOf m .refusal; fact = Fact.number (rttZeroOf m .value) }
-metricsTold «rtt_arith_fail» m = record { refusal = rttArithFailOf m .refusal; fact = Fact.number (rttArithFailOf m .value) }
-metricsTold «last_rtt_ms» m = record { refusal = lastRttMsOf m .refusal; fact = Fact.optional-word (lastRttMsOf m .value) }
+metricsTold «keeps_rule» m = told.rule (keepsRule m)
+metricsTold «srtt_ms» m = told.optional-f64 (srttMsOf m)
+metricsTold «loss_rate» m = told.f64 (lossRateOf m)
+metricsTold «smoothed_loss» m = told.optional-f64 (smoothedLossOf m)
+metricsTold «quality_index» m = told.optional-f64 (qualityIndexOf m)
+metricsTold «smoothed_etx» m = told.optional-f64 (smoothedEtxOf m)
+metricsTold «goodput_bps» m = told.f64 (goodputBpsOf m)
+metricsTold «last_ecn_ce_count» m = told.u32 (lastEcnCeCountOf m)
+metricsTold «rr_counters» m = told.counters (rrCountersOf m)
+metricsTold «rtt_samples» m = told.u64 (rttSamplesOf m)
+metricsTold «rtt_zero» m = told.u64 (rttZeroOf m)
+metricsTold «rtt_arith_fail» m = told.u64 (rttArithFailOf m)
+metricsTold «last_rtt_ms» m = told.optional-u32 (lastRttMsOf m)
 
 -- ---- the calls, with their arguments in the functions' order
 pub data MetricsCall : Type 0 where
@@ -70,5 +71,5 @@ metricsStep («process_receiver_report» rr ours now) m =
     record { refusal = processOf m rr ours now .refusal; answer = Answer.outcome (processOf m rr ours now .outcome); state = processOf m rr ours now .state }
 metricsStep «reset_for_rekey» m = updating (rekeyOf m)
 metricsStep («update_reverse_delivery» packets highest) m = updating (reverseOf m packets highest)
-metricsStep «reports_seen» m = staying m (record { refusal = reportsSeenOf m .refusal; fact = Fact.number (reportsSeenOf m .value) })
+metricsStep «reports_seen» m = staying m (told.u64 (reportsSeenOf m))
 metricsStep (ask q) m = staying m (metricsTold q m)

@@ -39,13 +39,13 @@ noneYet = record { west = noCalls; east = noCalls }
 
 -- ---- "every list of calls on them": written out, the records at its end, and the calls that were not refused
 abbrev pub written : Two EndNew → List Call → List (Entry ends)
-written k h = run.written ends (begun k) noneYet h
+written k h = run.writtenFrom ends (begun k) noneYet h
 
 abbrev pub reached : Two EndNew → List Call → Two End
-reached k h = run.reached ends (begun k) h
+reached k h = run.reachedFrom ends (begun k) h
 
 abbrev pub accepted : Two EndNew → List Call → Two Log
-accepted k h = run.accepted ends noneYet (written k h)
+accepted k h = run.acceptedFrom ends noneYet (written k h)
 
 -- ---- each record is what the accepted calls on it reach by themselves
 pub record Alone (n : EndNew) (x : Log) (e : End) : Type 0 where
@@ -99,7 +99,7 @@ jitterAverage l = jitterAverageOf (map natAbs (differences l))
 
 -- decoded from the bytes that it is encoded to, in whichever buffer has room for them; over 16^n
 pub record JitterHolds (a : JitterAverage) (rr : ReceiverReport) (out : List ℕ) : Type 0 where
-  pub taken : decoded (drop 1 (encodedInto out rr)) .refusal ≡ 0
+  pub decodes : decoded (drop 1 (encodedInto out rr)) .refusal ≡ 0
   pub near : Within jitterBound (16 ^ (a .n)) (a .top) (decoded (drop 1 (encodedInto out rr)) .report .jitter)
 
 -- where the answer is a report: A is the average of the calls that its receiver had before
@@ -113,17 +113,17 @@ ReportHolds n =
 
 -- ---- "Strike out any stale reports from the list"
 -- a report processed, not refused, and stale beside the report kept in the list's own sense
-abbrev pub staleOnEnd : EndCall → Log → Bool
-staleOnEnd (on-sender c) x = false
-staleOnEnd (on-receiver c) x = false
-staleOnEnd (on-metrics c) x = exact.staleCall c (x .metrics)
+abbrev pub endStale : EndCall → Log → Bool
+endStale (on-sender c) x = false
+endStale (on-receiver c) x = false
+endStale (on-metrics c) x = exact.staleCall c (x .metrics)
 
 abbrev pub unlessRefused : ℕ → Bool → Bool
 unlessRefused zero b = b
 unlessRefused (suc n) b = false
 
 abbrev pub staleEntry : Entry ends → Bool
-staleEntry n = unlessRefused (n .refusal) (staleOnEnd (n .call .call) (at (n .call .side) (n .before)))
+staleEntry n = unlessRefused (n .refusal) (endStale (n .call .call) (at (n .call .side) (n .before)))
 
 -- how many were struck out at each end
 abbrev pub oneMore : Call → Two ℕ → Two ℕ
@@ -133,11 +133,11 @@ abbrev pub noneStruck : Two ℕ
 noneStruck = record { west = 0; east = 0 }
 
 -- the entries left when the stale ones at the places given, one, some or all, are taken out
-abbrev pub left : Two EndNew → (ℕ → Bool) → List Call → List (Left ends (Two ℕ))
-left k places h = run.left ends oneMore staleEntry places noneStruck (written k h)
+abbrev pub entriesLeft : Two EndNew → (ℕ → Bool) → List Call → List (Left ends (Two ℕ))
+entriesLeft k places h = run.leftFrom ends oneMore staleEntry places noneStruck (written k h)
 
 abbrev pub struckOut : Two EndNew → (ℕ → Bool) → List Call → Two ℕ
-struckOut k places h = run.struckOut ends oneMore staleEntry places noneStruck (written k h)
+struckOut k places h = run.struckFrom ends oneMore staleEntry places noneStruck (written k h)
 
 -- "but for the count of reports seen": it is lower by what was struck out before at that end. Put back in its accessor's answer ..
 abbrev pub raisedFact : ℕ → Fact → Fact
@@ -191,13 +191,13 @@ pub record NoCreep (k : Two EndNew) (h : List Call) : Type 0 where
   pub answers :
       (places : ℕ → Bool) →
       All (notFull ends) (written k h) →
-      restored ends restore (left k places h) (written k (callsLeft ends (left k places h))) ≡ asTheyWere ends (left k places h)
+      restored ends restore (entriesLeft k places h) (written k (callsLeft ends (entriesLeft k places h))) ≡ asTheyWere ends (entriesLeft k places h)
   -- "and the final records stay as they were"
   pub records :
       (places : ℕ → Bool) →
       All (notFull ends) (written k h) →
       (s : Side) →
-      restoreRecords (at s (struckOut k places h)) (at s (reached k (callsLeft ends (left k places h)))) ≡ at s (reached k h)
+      restoreRecords (at s (struckOut k places h)) (at s (reached k (callsLeft ends (entriesLeft k places h)))) ≡ at s (reached k h)
 
 -- for every pair of new ends and every list of calls whose arguments fit their types
 abbrev pub NoCreepHolds : Type 0

@@ -10,7 +10,8 @@ use Rattle.receiver.specs.Pacing.{fromSrttOf, withBoundsOf, shouldSendOf}
 use Rattle.receiver.specs.declared.ReceiverState.{ReceiverState}
 use Rattle.receiver.specs.declared.ReceiverUpdate.{ReceiverUpdate}
 use Rattle.history.specs.Run.{Step}
-use Rattle.history.specs.Answers.{Fact, Answer, Told, staying}
+use Rattle.history.specs.Answers.{Answer, Told, staying}
+use Rattle.history.specs.Tellings as told
 
 -- ---- a new record: each constructor with its arguments
 pub data ReceiverNew : Type 0 where
@@ -30,15 +31,15 @@ pub data ReceiverQuestion : Type 0 where
   «cumulative_packets_recv» «cumulative_bytes_recv» «highest_counter» «jitter_us» «report_interval_ms» «last_recv_ms» «ecn_ce_count» : ReceiverQuestion
 
 unfoldable pub receiverTold : ReceiverQuestion → ReceiverState → Told
-receiverTold («should_send_report» now) s = record { refusal = shouldSendOf s now .refusal; fact = Fact.yes-or-no (shouldSendOf s now .value) }
-receiverTold «keeps_rule» s = record { refusal = 0; fact = Fact.yes-or-no (keepsRule s) }
-receiverTold «cumulative_packets_recv» s = record { refusal = packetsOf s .refusal; fact = Fact.number (packetsOf s .value) }
-receiverTold «cumulative_bytes_recv» s = record { refusal = bytesOf s .refusal; fact = Fact.number (bytesOf s .value) }
-receiverTold «highest_counter» s = record { refusal = highestOf s .refusal; fact = Fact.number (highestOf s .value) }
-receiverTold «jitter_us» s = record { refusal = jitterOf s .refusal; fact = Fact.number (jitterOf s .value) }
-receiverTold «report_interval_ms» s = record { refusal = intervalOf s .refusal; fact = Fact.number (intervalOf s .value) }
-receiverTold «last_recv_ms» s = record { refusal = lastRecvOf s .refusal; fact = Fact.optional-number (lastRecvOf s .value) }
-receiverTold «ecn_ce_count» s = record { refusal = ecnOf s .refusal; fact = Fact.number (ecnOf s .value) }
+receiverTold («should_send_report» now) s = told.bool (shouldSendOf s now)
+receiverTold «keeps_rule» s = told.rule (keepsRule s)
+receiverTold «cumulative_packets_recv» s = told.u64 (packetsOf s)
+receiverTold «cumulative_bytes_recv» s = told.u64 (bytesOf s)
+receiverTold «highest_counter» s = told.u64 (highestOf s)
+receiverTold «jitter_us» s = told.u32 (jitterOf s)
+receiverTold «report_interval_ms» s = told.u64 (intervalOf s)
+receiverTold «last_recv_ms» s = told.optional-u64 (lastRecvOf s)
+receiverTold «ecn_ce_count» s = told.u32 (ecnOf s)
 
 -- ---- a frame: the windows lent with it, counter, sender timestamp, bytes, CE mark and clock
 pub record Frame : Type 0 where

@@ -1,5 +1,6 @@
 -- Lists of calls on a world of records, each of which may be refused; written out call by call; with calls struck out. Nothing here knows what
--- the calls are. A list of calls runs from the first one on; a log of calls that were accepted has the latest first. Definitions only.
+-- the calls are. A list of calls runs from the first one on, as do the round trips and differences read off it; the log of the accepted calls has the latest
+-- first. Definitions only.
 use mathlib.Core.Bool.{Bool, cond, _&&_}
 use mathlib.Core.List.{List, [], _∷_, map}
 use mathlib.Core.Logic.{_≢_}
@@ -16,7 +17,7 @@ unfoldable pub runOf : {Call Answer State : Type 0} → (Call → State → Step
 runOf step new [] = new
 runOf step new (c ∷ l) = step c (runOf step new l) .state
 
--- World holds the records. Log is what is remembered of the calls that were not refused: `note` sees their arguments and never a record.
+-- World holds the records. Log holds the accepted calls: `note` sees their arguments and never a record.
 pub record Machine : Type 1 where
   pub World : Type 0
   pub Log : Type 0
@@ -27,7 +28,7 @@ pub record Machine : Type 1 where
   pub step : Call → World → Step Answer World
   pub note : Call → Log → Log
 
--- a call with its refusal number and its answer, and what was remembered when it was made
+-- a call with its refusal number and its answer, and the log before it
 pub record Entry (𝓜 : Machine) : Type 0 where
   pub call : 𝓜 .Call
   pub refusal : ℕ
@@ -40,7 +41,7 @@ pub data All {A : Type 0} (P : A → Type 0) : List A → Type 0 where
   all-cons : {a : A} {l : List A} → P a → All P l → All P (a ∷ l)
 
 module _ (𝓜 : Machine) where
-  -- a call that is refused, by a number above 0, is not remembered
+  -- a call that is refused, by a number above 0, is not noted
   abbrev pub noted : 𝓜 .Call → ℕ → 𝓜 .Log → 𝓜 .Log
   noted c zero x = 𝓜 .note c x
   noted c (suc n) x = x
@@ -49,19 +50,19 @@ module _ (𝓜 : Machine) where
   entry c w x = record { call = c; refusal = 𝓜 .step c w .refusal; answer = 𝓜 .step c w .answer; before = x }
 
   -- the list written out: each call gets the records as the call before handed them back
-  unfoldable pub written : 𝓜 .World → 𝓜 .Log → List (𝓜 .Call) → List (Entry 𝓜)
-  written w x [] = []
-  written w x (c ∷ h) = entry c w x ∷ written (𝓜 .step c w .state) (noted c (𝓜 .step c w .refusal) x) h
+  unfoldable pub writtenFrom : 𝓜 .World → 𝓜 .Log → List (𝓜 .Call) → List (Entry 𝓜)
+  writtenFrom w x [] = []
+  writtenFrom w x (c ∷ h) = entry c w x ∷ writtenFrom (𝓜 .step c w .state) (noted c (𝓜 .step c w .refusal) x) h
 
   -- the records at its end
-  unfoldable pub reached : 𝓜 .World → List (𝓜 .Call) → 𝓜 .World
-  reached w [] = w
-  reached w (c ∷ h) = reached (𝓜 .step c w .state) h
+  unfoldable pub reachedFrom : 𝓜 .World → List (𝓜 .Call) → 𝓜 .World
+  reachedFrom w [] = w
+  reachedFrom w (c ∷ h) = reachedFrom (𝓜 .step c w .state) h
 
-  -- what is remembered at its end
-  unfoldable pub accepted : 𝓜 .Log → List (Entry 𝓜) → 𝓜 .Log
-  accepted x [] = x
-  accepted x (n ∷ ns) = accepted (noted (n .call) (n .refusal) x) ns
+  -- the log at its end
+  unfoldable pub acceptedFrom : 𝓜 .Log → List (Entry 𝓜) → 𝓜 .Log
+  acceptedFrom x [] = x
+  acceptedFrom x (n ∷ ns) = acceptedFrom (noted (n .call) (n .refusal) x) ns
 
   -- the call did not meet 10
   abbrev pub notFull : Entry 𝓜 → Type 0
@@ -82,15 +83,15 @@ pub record Shown (𝓜 : Machine) : Type 0 where
 module _ (𝓜 : Machine) {Struck : Type 0} where
   -- the entries without those at the places given that may be struck; `more` counts one that is
   module _ (more : 𝓜 .Call → Struck → Struck) (may : Entry 𝓜 → Bool) where
-    unfoldable pub left : (ℕ → Bool) → Struck → List (Entry 𝓜) → List (Left 𝓜 Struck)
-    left places t [] = []
-    left places t (n ∷ ns) =
-        cond (places 0 && may n) (left (λ i. places (suc i)) (more (n .call) t) ns) (record { entry = n; struck = t } ∷ left (λ i. places (suc i)) t ns)
+    unfoldable pub leftFrom : (ℕ → Bool) → Struck → List (Entry 𝓜) → List (Left 𝓜 Struck)
+    leftFrom places t [] = []
+    leftFrom places t (n ∷ ns) =
+        cond (places 0 && may n) (leftFrom (λ i. places (suc i)) (more (n .call) t) ns) (record { entry = n; struck = t } ∷ leftFrom (λ i. places (suc i)) t ns)
 
     -- what was struck out in all
-    unfoldable pub struckOut : (ℕ → Bool) → Struck → List (Entry 𝓜) → Struck
-    struckOut places t [] = t
-    struckOut places t (n ∷ ns) = cond (places 0 && may n) (struckOut (λ i. places (suc i)) (more (n .call) t) ns) (struckOut (λ i. places (suc i)) t ns)
+    unfoldable pub struckFrom : (ℕ → Bool) → Struck → List (Entry 𝓜) → Struck
+    struckFrom places t [] = t
+    struckFrom places t (n ∷ ns) = cond (places 0 && may n) (struckFrom (λ i. places (suc i)) (more (n .call) t) ns) (struckFrom (λ i. places (suc i)) t ns)
 
   -- the calls that are left, with their arguments
   abbrev pub callsLeft : List (Left 𝓜 Struck) → List (𝓜 .Call)

@@ -10,6 +10,7 @@ use Rattle.sender.specs.declared.SenderState.{SenderState}
 use Rattle.sender.specs.declared.SenderUpdate.{SenderUpdate}
 use Rattle.history.specs.Run.{Step}
 use Rattle.history.specs.Answers.{Fact, Answer, Told, staying}
+use Rattle.history.specs.Tellings as told
 
 -- ---- a new record: each constructor with its arguments
 pub data SenderNew : Type 0 where
@@ -29,13 +30,13 @@ pub data SenderQuestion : Type 0 where
   «cumulative_packets_sent» «cumulative_bytes_sent» «report_interval_ms» «consecutive_send_failures» : SenderQuestion
 
 unfoldable pub senderTold : SenderQuestion → SenderState → Told
-senderTold («should_send_report» now) s = record { refusal = shouldSendOf s now .refusal; fact = Fact.yes-or-no (shouldSendOf s now .value) }
-senderTold «send_failure_backoff_multiplier» s = record { refusal = multiplierOf s .refusal; fact = Fact.float (multiplierOf s .value) }
-senderTold «keeps_rule» s = record { refusal = 0; fact = Fact.yes-or-no (keepsRule s) }
-senderTold «cumulative_packets_sent» s = record { refusal = packetsOf s .refusal; fact = Fact.number (packetsOf s .value) }
-senderTold «cumulative_bytes_sent» s = record { refusal = bytesOf s .refusal; fact = Fact.number (bytesOf s .value) }
-senderTold «report_interval_ms» s = record { refusal = intervalOf s .refusal; fact = Fact.number (intervalOf s .value) }
-senderTold «consecutive_send_failures» s = record { refusal = failuresOf s .refusal; fact = Fact.number (failuresOf s .value) }
+senderTold («should_send_report» now) s = told.bool (shouldSendOf s now)
+senderTold «send_failure_backoff_multiplier» s = told.f64 (multiplierOf s)
+senderTold «keeps_rule» s = told.rule (keepsRule s)
+senderTold «cumulative_packets_sent» s = told.u64 (packetsOf s)
+senderTold «cumulative_bytes_sent» s = told.u64 (bytesOf s)
+senderTold «report_interval_ms» s = told.u64 (intervalOf s)
+senderTold «consecutive_send_failures» s = told.u32 (failuresOf s)
 
 -- ---- the calls, with their arguments in the functions' order
 pub data SenderCall : Type 0 where

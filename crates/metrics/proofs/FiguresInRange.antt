@@ -1,7 +1,7 @@
 -- Every figure of the record is an f64 in its range, and stays so through a rekey and an update of the reverse ratio.
 -- Assumes nothing.
 use mathlib.Core.Path.{_≡_, refl}
-use mathlib.Core.Bool.{Bool, true, false, cond, _&&_}
+use mathlib.Core.Bool.{true}
 use Prim.Native.Nat.{ℕ, _-_, _^_, _≤_, _<_}
 use native.Mathlib.Omega.{arith}
 use lib.Dec.{T, ltb, lit≤}
@@ -14,6 +14,7 @@ use Rattle.floats.proofs.Order.{le-transitive}
 use Rattle.floats.proofs.Ranges.{Within, within→in-range, in-range→within}
 use Rattle.floats.proofs.Complements.{complement-within}
 use Rattle.refusals.specs.Ranges.{maxTrend, maxEtx, optionalClockOk}
+use Rattle.refusals.specs.declared.option.OptionU64.{OptionU64}
 use Rattle.algorithms.specs.Etx.{etxOf}
 use Rattle.algorithms.specs.Ewma as ewma
 use Rattle.algorithms.specs.Srtt as estimator
@@ -26,9 +27,12 @@ use Rattle.figures.specs.Goodput.{maxGoodput}
 use Rattle.figures.proofs.GoodputInRange.{Goodput}
 use Rattle.floats.proofs.IntegersInRange.{integer-within}
 use Rattle.figures.proofs.RatiosInRange.{delivery-within, delivery-fits, loss-fits, etx-fits}
-use Rattle.metrics.specs.State.{fresh, Kept}
-use Rattle.metrics.specs.Updates.{rekeyed, withReverseRatio, reverseMoved, reversed}
+use Rattle.metrics.specs.Fields.{Rtt, Trends, Ratios, rttIn, trendsIn, ratiosIn}
+use Rattle.metrics.specs.State.{fresh}
+use Rattle.metrics.specs.Updates.{rekeyed, withReverseRatio, reversed}
 use Rattle.metrics.specs.declared.MmpMetrics.{MmpMetrics}
+use Rattle.metrics.proofs.QuestionsAnswered.{Kept}
+use Rattle.metrics.proofs.ReportsByCase.{by-reverse}
 
 -- ---- the floats of a record
 -- every float field is an f64, as a caller's record is
@@ -92,48 +96,65 @@ etx-of {x} {y} hx hy = record { float = etx-fits x y; within = etx-within x y (h
 pub less : (a b : ℕ) → a < 2 ^ 64 → a - b < 2 ^ 64
 less a b h = omega arith
 
--- ---- the record: its clock and every figure in its range
-pub record InRange (m : MmpMetrics) : Type 0 where
-  pub clock : optionalClockOk (m .«prev_rr_ms») ≡ true
-  pub round-trip : estimator.keepsRule (m .srtt) ≡ true
-  pub rtt-trend : Trend (m .«rtt_trend»)
-  pub loss-trend : Trend (m .«loss_trend»)
-  pub goodput-trend : Trend (m .«goodput_trend»)
-  pub jitter-trend : Trend (m .«jitter_trend»)
-  pub etx-trend : Trend (m .«etx_trend»)
-  pub forward : Ratio (m .«delivery_ratio_forward»)
-  pub reverse : Ratio (m .«delivery_ratio_reverse»)
-  pub etx : Etx (m .etx)
-  pub goodput : Goodput (m .«goodput_bps»)
+-- ---- the record: its clock and every figure in its range, by its groups
+pub record RttInRange (r : Rtt) : Type 0 where
+  pub estimator : estimator.keepsRule (r .estimator) ≡ true
+  pub trend : Trend (r .trend)
+
+pub record TrendsInRange (t : Trends) : Type 0 where
+  pub loss : Trend (t .loss)
+  pub goodput : Trend (t .goodput)
+  pub jitter : Trend (t .jitter)
+  pub etx : Trend (t .etx)
+
+pub record RatiosInRange (r : Ratios) : Type 0 where
+  pub forward : Ratio (r .forward)
+  pub reverse : Ratio (r .reverse)
+  pub etx : Etx (r .etx)
+  pub goodput : Goodput (r .goodput)
+
+pub record GroupsInRange (ms : OptionU64) (r : Rtt) (t : Trends) (q : Ratios) : Type 0 where
+  pub clock : optionalClockOk ms ≡ true
+  pub rtt : RttInRange r
+  pub trends : TrendsInRange t
+  pub ratios : RatiosInRange q
+
+abbrev pub InRange : MmpMetrics → Type 0
+InRange m = GroupsInRange (m .«prev_rr_ms») (rttIn m) (trendsIn m) (ratiosIn m)
 
 -- the rule and the widths say so
 pub in-range : (m : MmpMetrics) → Floats m → Kept m → InRange m
 in-range m f k = record {
   clock = k .clock;
-  round-trip = k .round-trip;
-  rtt-trend = record { floats = f .rtt-trend; rule = k .rtt-trend };
-  loss-trend = record { floats = f .loss-trend; rule = k .loss-trend };
-  goodput-trend = record { floats = f .goodput-trend; rule = k .goodput-trend };
-  jitter-trend = record { floats = f .jitter-trend; rule = k .jitter-trend };
-  etx-trend = record { floats = f .etx-trend; rule = k .etx-trend };
-  forward = record { float = f .forward; within = in-range→within zero-float one-float (m .«delivery_ratio_forward») (k .forward) };
-  reverse = record { float = f .reverse; within = in-range→within zero-float one-float (m .«delivery_ratio_reverse») (k .reverse) };
-  etx = record { float = f .etx; within = in-range→within one-float maxEtx (m .etx) (k .etx) };
-  goodput = record { float = f .goodput; within = in-range→within zero-float maxGoodput (m .«goodput_bps») (k .goodput) };
+  rtt = record { estimator = k .round-trip; trend = record { floats = f .rtt-trend; rule = k .rtt-trend } };
+  trends =
+      record {
+        loss = record { floats = f .loss-trend; rule = k .loss-trend };
+        goodput = record { floats = f .goodput-trend; rule = k .goodput-trend };
+        jitter = record { floats = f .jitter-trend; rule = k .jitter-trend };
+        etx = record { floats = f .etx-trend; rule = k .etx-trend };
+      };
+  ratios =
+      record {
+        forward = record { float = f .forward; within = in-range→within zero-float one-float (m .«delivery_ratio_forward») (k .forward) };
+        reverse = record { float = f .reverse; within = in-range→within zero-float one-float (m .«delivery_ratio_reverse») (k .reverse) };
+        etx = record { float = f .etx; within = in-range→within one-float maxEtx (m .etx) (k .etx) };
+        goodput = record { float = f .goodput; within = in-range→within zero-float maxGoodput (m .«goodput_bps») (k .goodput) };
+      };
 }
 
 -- and they say the widths
-pub floats : {m : MmpMetrics} → InRange m → Floats m
-floats k = record {
-  rtt-trend = k .rtt-trend .floats;
-  loss-trend = k .loss-trend .floats;
-  goodput-trend = k .goodput-trend .floats;
-  jitter-trend = k .jitter-trend .floats;
-  etx-trend = k .etx-trend .floats;
-  forward = k .forward .float;
-  reverse = k .reverse .float;
-  etx = k .etx .float;
-  goodput = k .goodput .float;
+pub floats : (m : MmpMetrics) → InRange m → Floats m
+floats m k = record {
+  rtt-trend = k .rtt .trend .floats;
+  loss-trend = k .trends .loss .floats;
+  goodput-trend = k .trends .goodput .floats;
+  jitter-trend = k .trends .jitter .floats;
+  etx-trend = k .trends .etx .floats;
+  forward = k .ratios .forward .float;
+  reverse = k .ratios .reverse .float;
+  etx = k .ratios .etx .float;
+  goodput = k .ratios .goodput .float;
 }
 
 -- ---- a new record, a rekey, and the reverse ratio
@@ -149,78 +170,31 @@ pub fresh-in-range : InRange fresh
 unfolding fits le
 fresh-in-range = record {
   clock = refl;
-  round-trip = estimators.fresh-keeps-rule;
-  rtt-trend = none-yet;
-  loss-trend = none-yet;
-  goodput-trend = none-yet;
-  jitter-trend = none-yet;
-  etx-trend = none-yet;
-  forward = one;
-  reverse = one;
-  etx = record { float = tt; within = record { low = tt; high = tt } };
-  goodput = record { float = tt; within = record { low = tt; high = tt } };
+  rtt = record { estimator = estimators.fresh-keeps-rule; trend = none-yet };
+  trends = record { loss = none-yet; goodput = none-yet; jitter = none-yet; etx = none-yet };
+  ratios =
+      record {
+        forward = one;
+        reverse = one;
+        etx = record { float = tt; within = record { low = tt; high = tt } };
+        goodput = record { float = tt; within = record { low = tt; high = tt } };
+      };
 }
 
 pub rekeyed-in-range : (m : MmpMetrics) → InRange m → InRange (rekeyed m)
 unfolding rekeyed
-rekeyed-in-range m k = record {
-  clock = refl;
-  round-trip = k .round-trip;
-  rtt-trend = k .rtt-trend;
-  loss-trend = k .loss-trend;
-  goodput-trend = k .goodput-trend;
-  jitter-trend = k .jitter-trend;
-  etx-trend = k .etx-trend;
-  forward = one;
-  reverse = k .reverse;
-  etx = k .etx;
-  goodput = k .goodput;
-}
+rekeyed-in-range m k =
+    let q = k .ratios in
+    record { clock = refl; rtt = k .rtt; trends = k .trends; ratios = record { forward = one; reverse = q .reverse; etx = q .etx; goodput = q .goodput } }
 
 reverse-ratio-in-range : (m : MmpMetrics) (x : Float) → InRange m → Ratio x → InRange (withReverseRatio m x)
-reverse-ratio-in-range m x k h = record {
-  clock = k .clock;
-  round-trip = k .round-trip;
-  rtt-trend = k .rtt-trend;
-  loss-trend = k .loss-trend;
-  goodput-trend = k .goodput-trend;
-  jitter-trend = k .jitter-trend;
-  etx-trend = k .etx-trend;
-  forward = k .forward;
-  reverse = h;
-  etx = etx-of (k .forward) h;
-  goodput = k .goodput;
-}
-
-moved-in-range : (m : MmpMetrics) (packets highest : ℕ) → packets < 2 ^ 64 → highest < 2 ^ 64 → InRange m → InRange (reverseMoved m packets highest)
-unfolding reverseMoved
-moved-in-range m packets highest p h k = go (m .«has_prev_reverse») (ltb 0 span) (λ s. reverse-ratio-in-range m r k (ratio (packets - m .«prev_reverse_packets») span (less packets (m .«prev_reverse_packets») p) s (less highest (m .«prev_reverse_highest») h)))
-  where
-    span : ℕ
-    span = highest - m .«prev_reverse_highest»
-
-    r : Float
-    r = deliveryRatio (packets - m .«prev_reverse_packets») span
-
-    go : (a b : Bool) → (b ≡ true → InRange (withReverseRatio m r)) → InRange (cond (a && b) (withReverseRatio m r) m)
-    go false b f = k
-    go true false f = k
-    go true true f = f refl
+reverse-ratio-in-range m x k h =
+    let q = k .ratios in
+    record { clock = k .clock; rtt = k .rtt; trends = k .trends; ratios = record { forward = q .forward; reverse = h; etx = etx-of (q .forward) h; goodput = q .goodput } }
 
 pub reversed-in-range : (m : MmpMetrics) (packets highest : ℕ) → packets < 2 ^ 64 → highest < 2 ^ 64 → InRange m → InRange (reversed m packets highest)
 unfolding reversed
 reversed-in-range m packets highest p h k =
-    let n = moved-in-range m packets highest p h k in
-    record {
-      clock = n .clock;
-      round-trip = n .round-trip;
-      rtt-trend = n .rtt-trend;
-      loss-trend = n .loss-trend;
-      goodput-trend = n .goodput-trend;
-      jitter-trend = n .jitter-trend;
-      etx-trend = n .etx-trend;
-      forward = n .forward;
-      reverse = n .reverse;
-      etx = n .etx;
-      goodput = n .goodput;
-    }
+    by-reverse InRange m packets highest
+    (λ s. reverse-ratio-in-range m _ k (ratio _ _ (less packets (m .«prev_reverse_packets») p) s (less highest (m .«prev_reverse_highest») h)))
+    k

@@ -2,7 +2,7 @@
 -- Assumes nothing.
 use mathlib.Core.Path.{_≡_, refl}
 use mathlib.Core.Bool.{Bool, true, _&&_}
-use mathlib.Core.List.{[], _∷_}
+use mathlib.Core.List.{List, [], _∷_, foldl}
 use Prim.Native.Nat.{ℕ, _+_, _^_, _≤_, _<_}
 use native.Mathlib.Omega.{arith}
 use borrow.Author.Tests.{leb-true, ltb-true}
@@ -14,55 +14,59 @@ use Rattle.algorithms.specs.Ewma as ewma
 use Rattle.algorithms.specs.Srtt as estimator
 use Rattle.figures.specs.Goodput.{goodputOk}
 use Rattle.figures.specs.RoundTrips.{talliesOk}
-use Rattle.metrics.specs.State.{trendsOk, ratiosOk, keepsRule, Kept, refusalOf}
+use Rattle.metrics.specs.State.{trendsOk, ratiosOk, keepsRule, refusalOf}
 use Rattle.metrics.specs.Reports.{counted, Room, processRefusal}
 use Rattle.metrics.specs.declared.MmpMetrics.{MmpMetrics}
 
 -- ---- the rule
--- four clauses
-record Four (a b c d : Bool) : Type 0 where
-  first : a ≡ true
-  second : b ≡ true
-  third : c ≡ true
-  fourth : d ≡ true
+-- its clauses by name
+pub record Kept (m : MmpMetrics) : Type 0 where
+  pub clock : optionalClockOk (m .«prev_rr_ms») ≡ true
+  pub round-trip : estimator.keepsRule (m .srtt) ≡ true
+  pub rtt-trend : ewma.keepsRule (m .«rtt_trend») ≡ true
+  pub loss-trend : ewma.keepsRule (m .«loss_trend») ≡ true
+  pub goodput-trend : ewma.keepsRule (m .«goodput_trend») ≡ true
+  pub jitter-trend : ewma.keepsRule (m .«jitter_trend») ≡ true
+  pub etx-trend : ewma.keepsRule (m .«etx_trend») ≡ true
+  pub forward : ratioOk (m .«delivery_ratio_forward») ≡ true
+  pub reverse : ratioOk (m .«delivery_ratio_reverse») ≡ true
+  pub etx : etxOk (m .etx) ≡ true
+  pub goodput : goodputOk (m .«goodput_bps») ≡ true
+  pub tallies : talliesOk (m .«reports_seen») (m .«rtt_samples») (m .«rtt_zero») (m .«rtt_arith_fail») ≡ true
 
-four : (a b c d : Bool) → (a && b && c && d) ≡ true → Four a b c d
-four a b c d h =
-    let abc = left (a && b && c) d h in
-    let ab = left (a && b) c abc in
-    record { first = left a b ab; second = right a b ab; third = right (a && b) c abc; fourth = right (a && b && c) d h }
+abbrev pub Each : List Bool → Type 0
+Each [] = Unit {0}
+Each (b ∷ bs) = (b ≡ true) × Each bs
+
+pub clauses : (b : Bool) (bs : List Bool) → foldl _&&_ b bs ≡ true → (b ≡ true) × Each bs
+clauses b [] h = (h, tt)
+clauses b (c ∷ bs) h = let r = clauses (b && c) bs h in (left b c (r .0), (right b c (r .0), r .1))
 
 module _ (m : MmpMetrics) where
   abbrev tallied : Bool
   tallied = talliesOk (m .«reports_seen») (m .«rtt_samples») (m .«rtt_zero») (m .«rtt_arith_fail»)
 
-  abbrev but-etx : Bool
-  but-etx = ewma.keepsRule (m .«rtt_trend») && ewma.keepsRule (m .«loss_trend») && ewma.keepsRule (m .«goodput_trend») && ewma.keepsRule (m .«jitter_trend»)
-
-  abbrev begun : Bool
-  begun = optionalClockOk (m .«prev_rr_ms») && estimator.keepsRule (m .srtt)
-
   pub kept : keepsRule m ≡ true → Kept m
   unfolding keepsRule trendsOk ratiosOk
   kept h =
-      let parts = four begun (trendsOk m) (ratiosOk m) tallied h in
+      let parts = clauses (optionalClockOk (m .«prev_rr_ms»)) (estimator.keepsRule (m .srtt) ∷ trendsOk m ∷ ratiosOk m ∷ tallied ∷ []) h in
       let t =
-      four (ewma.keepsRule (m .«rtt_trend»)) (ewma.keepsRule (m .«loss_trend»)) (ewma.keepsRule (m .«goodput_trend»)) (ewma.keepsRule (m .«jitter_trend»))
-      (left but-etx (ewma.keepsRule (m .«etx_trend»)) (parts .second)) in
-      let r = four (ratioOk (m .«delivery_ratio_forward»)) (ratioOk (m .«delivery_ratio_reverse»)) (etxOk (m .etx)) (goodputOk (m .«goodput_bps»)) (parts .third) in
+      clauses (ewma.keepsRule (m .«rtt_trend»)) (ewma.keepsRule (m .«loss_trend») ∷ ewma.keepsRule (m .«goodput_trend») ∷ ewma.keepsRule (m .«jitter_trend») ∷ ewma.keepsRule (m .«etx_trend») ∷ [])
+      (parts .1 .1 .0) in
+      let r = clauses (ratioOk (m .«delivery_ratio_forward»)) (ratioOk (m .«delivery_ratio_reverse») ∷ etxOk (m .etx) ∷ goodputOk (m .«goodput_bps») ∷ []) (parts .1 .1 .1 .0) in
       record {
-        clock = left (optionalClockOk (m .«prev_rr_ms»)) (estimator.keepsRule (m .srtt)) (parts .first);
-        round-trip = right (optionalClockOk (m .«prev_rr_ms»)) (estimator.keepsRule (m .srtt)) (parts .first);
-        rtt-trend = t .first;
-        loss-trend = t .second;
-        goodput-trend = t .third;
-        jitter-trend = t .fourth;
-        etx-trend = right but-etx (ewma.keepsRule (m .«etx_trend»)) (parts .second);
-        forward = r .first;
-        reverse = r .second;
-        etx = r .third;
-        goodput = r .fourth;
-        tallies = parts .fourth;
+        clock = parts .0;
+        round-trip = parts .1 .0;
+        rtt-trend = t .0;
+        loss-trend = t .1 .0;
+        goodput-trend = t .1 .1 .0;
+        jitter-trend = t .1 .1 .1 .0;
+        etx-trend = t .1 .1 .1 .1 .0;
+        forward = r .0;
+        reverse = r .1 .0;
+        etx = r .1 .1 .0;
+        goodput = r .1 .1 .1 .0;
+        tallies = parts .1 .1 .1 .1 .0;
       }
 
   pub keeps : Kept m → keepsRule m ≡ true

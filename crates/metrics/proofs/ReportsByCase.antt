@@ -1,4 +1,5 @@
--- A report by its cases: refused, stale, or taken. A refusal and a stale report move no figure; a report taken moves the round trip by its echo alone.
+-- A report by its cases: refused, stale, or taken. A refusal and a stale report move no figure; a report taken moves the round trip by its echo alone. The
+-- reverse side by its cases: an interval or none.
 -- Assumes nothing.
 use mathlib.Core.Path.{_≡_, refl, sym, _∙_}
 use mathlib.Core.Bool.{Bool, true, false, cond, true≢false, _&&_}
@@ -8,8 +9,10 @@ use borrow.Author.Tests.{eq-eqb, ne-eqb, eqb-true}
 use Rattle.figures.specs.Delivery.{deliveryRatio}
 use Rattle.figures.specs.Stale.{stale}
 use Rattle.wire.specs.declared.receiver_report.ReceiverReport.{ReceiverReport}
+use Rattle.metrics.specs.Fields.{rttIn, talliesIn}
 use Rattle.metrics.specs.State.{savedIn}
-use Rattle.metrics.specs.Reports.{counted, withForward, delivered, withBytes, carried, jittered, kept, measured, taken, staleOutcome, takenOutcome, answered, processed, processRefusal, refused, processOf}
+use Rattle.metrics.specs.Updates.{withReverseRatio, reverseMoved}
+use Rattle.metrics.specs.Reports.{counted, withForward, deliveryUpdated, withBytes, goodputUpdated, jitterTrendUpdated, countersSaved, trafficUpdated, newerReport, staleReport, processed, processRefusal, refused, processOf}
 use Rattle.metrics.specs.declared.MmpMetrics.{MmpMetrics}
 use Rattle.metrics.specs.declared.ReportProcessed.{ReportProcessed}
 
@@ -25,20 +28,20 @@ module _ (m : MmpMetrics) (rr : ReceiverReport) (ours now : ℕ) where
   refused-is e = rw (ne-eqb (processRefusal m now) 0 e)
 
   -- a stale report is counted, and moves nothing else
-  pub stale-is : processRefusal m now ≡ 0 → stale (savedIn m) rr ≡ true → processOf m rr ours now ≡ answered 0 (counted m) (staleOutcome m)
+  pub stale-is : processRefusal m now ≡ 0 → stale (savedIn m) rr ≡ true → processOf m rr ours now ≡ staleReport (counted m)
   unfolding processed savedIn counted
   stale-is e s = accepted-is e ∙ rw s
 
   -- any other report is counted and taken
-  pub taken-is : processRefusal m now ≡ 0 → stale (savedIn m) rr ≡ false → processOf m rr ours now ≡ answered 0 (taken (counted m) rr ours now) (takenOutcome (counted m) rr ours now)
+  pub newer-is : processRefusal m now ≡ 0 → stale (savedIn m) rr ≡ false → processOf m rr ours now ≡ newerReport (counted m) rr ours now
   unfolding processed savedIn counted
-  taken-is e s = accepted-is e ∙ rw s
+  newer-is e s = accepted-is e ∙ rw s
 
   -- what holds of the three holds of every report
   pub by-case : (P : ReportProcessed → Type 0)
       → ((processRefusal m now ≡ 0 → ⊥) → P (refused (processRefusal m now) m))
-      → (processRefusal m now ≡ 0 → stale (savedIn m) rr ≡ true → P (answered 0 (counted m) (staleOutcome m)))
-      → (processRefusal m now ≡ 0 → stale (savedIn m) rr ≡ false → P (answered 0 (taken (counted m) rr ours now) (takenOutcome (counted m) rr ours now)))
+      → (processRefusal m now ≡ 0 → stale (savedIn m) rr ≡ true → P (staleReport (counted m)))
+      → (processRefusal m now ≡ 0 → stale (savedIn m) rr ≡ false → P (newerReport (counted m) rr ours now))
       → P (processOf m rr ours now)
   by-case P none old new = go (eqb (processRefusal m now) 0) (stale (savedIn m) rr) refl refl
     where
@@ -48,88 +51,41 @@ module _ (m : MmpMetrics) (rr : ReceiverReport) (ours now : ℕ) where
       go : (a b : Bool) → eqb (processRefusal m now) 0 ≡ a → stale (savedIn m) rr ≡ b → P (processOf m rr ours now)
       go false b e s = let h = not-zero (processRefusal m now) e in rw (refused-is h) (none h)
       go true true e s = let h = eqb-true (processRefusal m now) 0 e in rw (stale-is h s) (old h s)
-      go true false e s = let h = eqb-true (processRefusal m now) 0 e in rw (taken-is h s) (new h s)
+      go true false e s = let h = eqb-true (processRefusal m now) 0 e in rw (newer-is h s) (new h s)
 
   -- the refusal is that of the questions
   pub process-refusal : processOf m rr ours now .refusal ≡ processRefusal m now
   process-refusal = by-case (λ p. p .refusal ≡ processRefusal m now) (λ h. refl) (λ h s. sym h) (λ h s. sym h)
 
+-- ---- the ratios, where there was an interval
+by-interval : (P : MmpMetrics → Type 0) (a b : Bool) {m n : MmpMetrics} → (b ≡ true → P n) → P m → P (cond (a && b) n m)
+by-interval P false b moved left = left
+by-interval P true false moved left = left
+by-interval P true true moved left = moved refl
+
+pub by-reverse : (P : MmpMetrics → Type 0) (m : MmpMetrics) (packets highest : ℕ)
+    → (ltb 0 (highest - m .«prev_reverse_highest») ≡ true → P (withReverseRatio m (deliveryRatio (packets - m .«prev_reverse_packets») (highest - m .«prev_reverse_highest»))))
+    → P m → P (reverseMoved m packets highest)
+unfolding reverseMoved
+by-reverse P m packets highest = by-interval P (m .«has_prev_reverse») (ltb 0 (highest - m .«prev_reverse_highest»))
+
 -- ---- the stages after the round trip
 module _ (P : MmpMetrics → Type 0) (m : MmpMetrics) (rr : ReceiverReport) where
   pub by-delivery : (ltb 0 (rr .«highest_counter» - m .«prev_rr_highest_counter») ≡ true
-      → P (withForward m (deliveryRatio (rr .«cumulative_packets_recv» - m .«prev_rr_cum_packets») (rr .«highest_counter» - m .«prev_rr_highest_counter»)))) → P m → P (delivered m rr)
-  unfolding delivered
-  by-delivery moved left = go (m .«has_prev_rr») (ltb 0 (rr .«highest_counter» - m .«prev_rr_highest_counter»)) moved
-    where
-      go : (a b : Bool)
-          → (b ≡ true → P (withForward m (deliveryRatio (rr .«cumulative_packets_recv» - m .«prev_rr_cum_packets») (rr .«highest_counter» - m .«prev_rr_highest_counter»))))
-          → P (cond (a && b) (withForward m (deliveryRatio (rr .«cumulative_packets_recv» - m .«prev_rr_cum_packets») (rr .«highest_counter» - m .«prev_rr_highest_counter»))) m)
-      go false b f = left
-      go true false f = left
-      go true true f = f refl
+      → P (withForward m (deliveryRatio (rr .«cumulative_packets_recv» - m .«prev_rr_cum_packets») (rr .«highest_counter» - m .«prev_rr_highest_counter»)))) → P m → P (deliveryUpdated m rr)
+  unfolding deliveryUpdated
+  by-delivery = by-interval P (m .«has_prev_rr») (ltb 0 (rr .«highest_counter» - m .«prev_rr_highest_counter»))
 
-  pub by-bytes : (now : ℕ) → P (withBytes m (rr .«cumulative_bytes_recv» - m .«prev_rr_cum_bytes») now) → P m → P (carried m rr now)
-  unfolding carried
-  by-bytes now moved left = go (m .«has_prev_rr»)
-    where
-      go : (a : Bool) → P (cond a (withBytes m (rr .«cumulative_bytes_recv» - m .«prev_rr_cum_bytes») now) m)
-      go true = moved
-      go false = left
+  pub by-bytes : (now : ℕ) → P (withBytes m (rr .«cumulative_bytes_recv» - m .«prev_rr_cum_bytes») now) → P m → P (goodputUpdated m rr now)
+  unfolding goodputUpdated
+  by-bytes now moved left = by-interval P true (m .«has_prev_rr») (λ h. moved) left
 
 -- what they leave as it was
-pub record Left (m n : MmpMetrics) : Type 0 where
-  pub estimator : n .srtt ≡ m .srtt
-  pub trend : n .«rtt_trend» ≡ m .«rtt_trend»
-  pub seen : n .«reports_seen» ≡ m .«reports_seen»
-  pub samples : n .«rtt_samples» ≡ m .«rtt_samples»
-  pub zeros : n .«rtt_zero» ≡ m .«rtt_zero»
-  pub failures : n .«rtt_arith_fail» ≡ m .«rtt_arith_fail»
-  pub last : n .«last_rtt_ms» ≡ m .«last_rtt_ms»
+abbrev pub Left : MmpMetrics → MmpMetrics → Type 0
+Left m n = (rttIn n ≡ rttIn m) × (talliesIn n ≡ talliesIn m)
 
-itself : (m : MmpMetrics) → Left m m
-itself m = record {
-  estimator = refl;
-  trend = refl;
-  seen = refl;
-  samples = refl;
-  zeros = refl;
-  failures = refl;
-  last = refl;
-}
-
-pub measured-leaves : (m : MmpMetrics) (rr : ReceiverReport) (now : ℕ) → Left m (measured m rr now)
-unfolding measured kept jittered
-measured-leaves m rr now = later (by-bytes (Left m) (delivered m rr) rr now (bytes first) first)
-  where
-    first : Left m (delivered m rr)
-    first = by-delivery (Left m) m rr (λ h. record {
-      estimator = refl;
-      trend = refl;
-      seen = refl;
-      samples = refl;
-      zeros = refl;
-      failures = refl;
-      last = refl;
-    }) (itself m)
-
-    bytes : Left m (delivered m rr) → Left m (withBytes (delivered m rr) (rr .«cumulative_bytes_recv» - delivered m rr .«prev_rr_cum_bytes») now)
-    bytes k = record {
-      estimator = k .estimator;
-      trend = k .trend;
-      seen = k .seen;
-      samples = k .samples;
-      zeros = k .zeros;
-      failures = k .failures;
-      last = k .last;
-    }
-
-    later : Left m (carried (delivered m rr) rr now) → Left m (kept (jittered (carried (delivered m rr) rr now) rr) rr now)
-    later k = record {
-      estimator = k .estimator;
-      trend = k .trend;
-      seen = k .seen;
-      samples = k .samples;
-      zeros = k .zeros;
-      failures = k .failures;
-      last = k .last;
-    }
+pub traffic-leaves : (m : MmpMetrics) (rr : ReceiverReport) (now : ℕ) → Left m (trafficUpdated m rr now)
+unfolding trafficUpdated countersSaved jitterTrendUpdated
+traffic-leaves m rr now =
+    let delivery = by-delivery (Left m) m rr (λ h. (refl, refl)) (refl, refl) in
+    by-bytes (Left m) (deliveryUpdated m rr) rr now delivery delivery

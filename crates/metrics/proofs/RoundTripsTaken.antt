@@ -2,28 +2,26 @@
 -- the estimate and no report; every other call leaves both.
 -- Assumes nothing.
 use mathlib.Core.Path.{_≡_, refl, ap, _∙_}
-use mathlib.Core.Bool.{Bool, true, false, cond, _&&_}
-use Prim.Native.Nat.{ℕ, _-_, _^_, _<_}
+use mathlib.Core.Bool.{true}
+use Prim.Native.Nat.{ℕ, _^_, _<_}
 use native.Mathlib.Omega.{arith}
-use lib.Dec.{ltb}
 use lib.IntN.{pos}
 use Rattle.numbers.specs.RoundTrip.{Estimate, no-estimate, estimateStep}
 use Rattle.algorithms.specs.Srtt.{estimateIn, stepped, updateOf}
 use Rattle.algorithms.proofs.SrttStepsEstimate.{fresh-holds-none, step-is-estimate-step}
-use Rattle.figures.specs.Delivery.{deliveryRatio}
 use Rattle.figures.specs.RoundTrips.{roundTrip, sampleUs}
 use Rattle.figures.specs.Stale.{none, saved, countersOf}
 use Rattle.figures.specs.declared.RoundTrip.{RoundTrip}
 use Rattle.figures.specs.declared.RoundTrip.the-variants.{NoEcho, Sample, Zero, ArithFail}
 use Rattle.figures.proofs.TripsInRange.{sample-at-most, sample-accepted}
 use Rattle.wire.specs.declared.receiver_report.ReceiverReport.{ReceiverReport}
-use Rattle.metrics.specs.Fields.{withReverse}
+use Rattle.metrics.specs.Fields.{Rtt}
 use Rattle.metrics.specs.State.{keepsRule, fresh, savedIn}
-use Rattle.metrics.specs.Updates.{rekeyed, withReverseRatio, reverseMoved, reversed}
-use Rattle.metrics.specs.Reports.{counted, sampled, tripTaken, kept, measured, taken}
+use Rattle.metrics.specs.Updates.{rekeyed, reversed}
+use Rattle.metrics.specs.Reports.{counted, sampled, rttUpdated, countersSaved, trafficUpdated, newerState}
 use Rattle.metrics.specs.declared.MmpMetrics.{MmpMetrics}
 use Rattle.metrics.proofs.QuestionsAnswered as rule
-use Rattle.metrics.proofs.ReportsByCase.{measured-leaves}
+use Rattle.metrics.proofs.ReportsByCase.{by-reverse, traffic-leaves}
 
 -- ---- the estimate
 -- a sample of whole ms is a step of 1000 times as many µs; any other echo is none
@@ -33,8 +31,8 @@ afterTrip e (Sample ms) = estimateStep e (sampleUs ms)
 afterTrip e Zero = e
 afterTrip e ArithFail = e
 
-trip-estimate : (m : MmpMetrics) (t : RoundTrip) → estimateIn (tripTaken m t .srtt) ≡ afterTrip (estimateIn (m .srtt)) t
-unfolding tripTaken sampled
+trip-estimate : (m : MmpMetrics) (t : RoundTrip) → estimateIn (rttUpdated m t .srtt) ≡ afterTrip (estimateIn (m .srtt)) t
+unfolding rttUpdated sampled
 trip-estimate m NoEcho = refl
 trip-estimate m (Sample ms) = step-is-estimate-step (m .srtt) (pos (sampleUs ms))
 trip-estimate m Zero = refl
@@ -55,9 +53,9 @@ pub counted-estimator : (m : MmpMetrics) → counted m .srtt ≡ m .srtt
 unfolding counted
 counted-estimator m = refl
 
-pub taken-estimate : (m : MmpMetrics) (rr : ReceiverReport) (ours now : ℕ) → estimateIn (taken m rr ours now .srtt) ≡ afterTrip (estimateIn (m .srtt)) (roundTrip rr ours)
-unfolding taken
-taken-estimate m rr ours now = ap estimateIn (measured-leaves (tripTaken m (roundTrip rr ours)) rr now .estimator) ∙ trip-estimate m (roundTrip rr ours)
+pub newer-estimate : (m : MmpMetrics) (rr : ReceiverReport) (ours now : ℕ) → estimateIn (newerState m rr ours now .srtt) ≡ afterTrip (estimateIn (m .srtt)) (roundTrip rr ours)
+unfolding newerState
+newer-estimate m rr ours now = ap (λ (r : Rtt). estimateIn (r .estimator)) (traffic-leaves (rttUpdated m (roundTrip rr ours)) rr now .0) ∙ trip-estimate m (roundTrip rr ours)
 
 pub rekeyed-estimator : (m : MmpMetrics) → rekeyed m .srtt ≡ m .srtt
 unfolding rekeyed
@@ -72,9 +70,9 @@ pub counted-saved : (m : MmpMetrics) → savedIn (counted m) ≡ savedIn m
 unfolding savedIn counted
 counted-saved m = refl
 
-pub taken-saved : (m : MmpMetrics) (rr : ReceiverReport) (ours now : ℕ) → savedIn (taken m rr ours now) ≡ saved (countersOf rr)
-unfolding savedIn taken measured kept
-taken-saved m rr ours now = refl
+pub newer-saved : (m : MmpMetrics) (rr : ReceiverReport) (ours now : ℕ) → savedIn (newerState m rr ours now) ≡ saved (countersOf rr)
+unfolding savedIn newerState trafficUpdated countersSaved
+newer-saved m rr ours now = refl
 
 pub rekeyed-saved : (m : MmpMetrics) → savedIn (rekeyed m) ≡ none
 unfolding savedIn rekeyed
@@ -82,12 +80,5 @@ rekeyed-saved m = refl
 
 -- ---- the reverse ratio
 pub reversed-leaves : (m : MmpMetrics) (packets highest : ℕ) → (reversed m packets highest .srtt ≡ m .srtt) × (savedIn (reversed m packets highest) ≡ savedIn m)
-unfolding savedIn reversed reverseMoved
-reversed-leaves m packets highest = go (m .«has_prev_reverse» && ltb 0 (highest - m .«prev_reverse_highest»))
-  where
-    after : Bool → MmpMetrics
-    after b = withReverse (cond b (withReverseRatio m (deliveryRatio (packets - m .«prev_reverse_packets») (highest - m .«prev_reverse_highest»))) m) packets highest true
-
-    go : (b : Bool) → (after b .srtt ≡ m .srtt) × (savedIn (after b) ≡ savedIn m)
-    go true = (refl, refl)
-    go false = (refl, refl)
+unfolding savedIn reversed
+reversed-leaves m packets highest = by-reverse (λ n. (n .srtt ≡ m .srtt) × (savedIn n ≡ savedIn m)) m packets highest (λ h. (refl, refl)) (refl, refl)

@@ -1,48 +1,50 @@
 -- Each call ends within the rule, floats included: a new record keeps it, and so does the record after any call that is accepted. Refused or not, f64 stay f64.
 -- Assumes nothing.
-use mathlib.Core.Path.{_≡_, refl}
-use mathlib.Core.Bool.{Bool, true, false, cond, _&&_}
-use Prim.Native.Nat.{ℕ, _+_, _-_, _^_, _≤_, _<_}
+use mathlib.Core.Path.{_≡_, refl, sym, subst}
+use mathlib.Core.Bool.{Bool, true, false, cond}
+use Prim.Native.Nat.{ℕ, _+_, _^_, _≤_, _<_}
 use native.Mathlib.Omega.{arith}
-use lib.Dec.{eqb, ltb}
+use lib.Dec.{eqb}
 use borrow.Author.Tests.{le-leb, leb-true, eqb-true}
 use Rattle.floats.specs.Operations.{zero-float, one-float}
 use Rattle.floats.proofs.Ranges.{within→in-range}
 use Rattle.refusals.specs.Ranges.{maxEtx}
-use Rattle.figures.specs.Delivery.{deliveryRatio}
 use Rattle.figures.specs.Goodput.{maxGoodput}
 use Rattle.figures.specs.RoundTrips.{roundTrip, talliesOk}
 use Rattle.figures.specs.declared.RoundTrip.{RoundTrip}
 use Rattle.figures.specs.declared.RoundTrip.the-variants.{NoEcho, Sample, Zero, ArithFail}
 use Rattle.wire.specs.ReceiverReport.{Fits}
 use Rattle.wire.specs.declared.receiver_report.ReceiverReport.{ReceiverReport}
-use Rattle.metrics.specs.Fields.{withReverse}
+use Rattle.metrics.specs.Fields.{Tallies, talliesIn}
 use Rattle.metrics.specs.State.{keepsRule, fresh, refusalOf}
-use Rattle.metrics.specs.Updates.{rekeyed, rekeyOf, reverseMoved, reversed, reverseOf, withReverseRatio}
-use Rattle.metrics.specs.Reports.{counted, sampled, tripTaken, taken, processRefusal, processOf}
+use Rattle.metrics.specs.Updates.{rekeyed, rekeyOf, reversed, reverseOf}
+use Rattle.metrics.specs.Reports.{counted, sampled, rttUpdated, newerState, processRefusal, processOf}
 use Rattle.metrics.specs.declared.MmpMetrics.{MmpMetrics}
 use Rattle.metrics.proofs.FiguresInRange.{Floats, InRange, in-range, floats, fresh-in-range, rekeyed-in-range, reversed-in-range}
 use Rattle.metrics.proofs.QuestionsAnswered as rule
-use Rattle.metrics.proofs.ReportsByCase.{by-case, measured-leaves, process-refusal}
-use Rattle.metrics.proofs.ReportsInRange.{counted-in-range, taken-in-range}
+use Rattle.metrics.proofs.ReportsByCase.{by-case, by-reverse, traffic-leaves, process-refusal}
+use Rattle.metrics.proofs.ReportsInRange.{counted-in-range, newer-in-range}
+
+abbrev Within : Tallies → Type 0
+Within t = talliesOk (t .seen) (t .samples) (t .zeros) (t .failures) ≡ true
 
 abbrev Tallied : MmpMetrics → Type 0
-Tallied m = talliesOk (m .«reports_seen») (m .«rtt_samples») (m .«rtt_zero») (m .«rtt_arith_fail») ≡ true
+Tallied m = Within (talliesIn m)
 
 -- the figures in their ranges, and the counts
 keeps : (m : MmpMetrics) → InRange m → Tallied m → keepsRule m ≡ true
 keeps m k t = rule.keeps m (record {
   clock = k .clock;
-  round-trip = k .round-trip;
-  rtt-trend = k .rtt-trend .rule;
-  loss-trend = k .loss-trend .rule;
-  goodput-trend = k .goodput-trend .rule;
-  jitter-trend = k .jitter-trend .rule;
-  etx-trend = k .etx-trend .rule;
-  forward = within→in-range zero-float one-float (m .«delivery_ratio_forward») (k .forward .within);
-  reverse = within→in-range zero-float one-float (m .«delivery_ratio_reverse») (k .reverse .within);
-  etx = within→in-range one-float maxEtx (m .etx) (k .etx .within);
-  goodput = within→in-range zero-float maxGoodput (m .«goodput_bps») (k .goodput .within);
+  round-trip = k .rtt .estimator;
+  rtt-trend = k .rtt .trend .rule;
+  loss-trend = k .trends .loss .rule;
+  goodput-trend = k .trends .goodput .rule;
+  jitter-trend = k .trends .jitter .rule;
+  etx-trend = k .trends .etx .rule;
+  forward = within→in-range zero-float one-float (m .«delivery_ratio_forward») (k .ratios .forward .within);
+  reverse = within→in-range zero-float one-float (m .«delivery_ratio_reverse») (k .ratios .reverse .within);
+  etx = within→in-range one-float maxEtx (m .etx) (k .ratios .etx .within);
+  goodput = within→in-range zero-float maxGoodput (m .«goodput_bps») (k .ratios .goodput .within);
   tallies = t;
 })
 
@@ -54,7 +56,7 @@ pub fresh-keeps-rule : keepsRule fresh ≡ true
 fresh-keeps-rule = keeps fresh fresh-in-range refl
 
 pub fresh-floats : Floats fresh
-fresh-floats = floats fresh-in-range
+fresh-floats = floats fresh fresh-in-range
 
 -- ---- a rekey
 rekeyed-tallied : (m : MmpMetrics) → Tallied m → Tallied (rekeyed m)
@@ -69,15 +71,8 @@ rekey-keeps-rule m f h =
 
 -- ---- the reverse ratio
 reversed-tallied : (m : MmpMetrics) (packets highest : ℕ) → Tallied m → Tallied (reversed m packets highest)
-unfolding reversed reverseMoved
-reversed-tallied m packets highest t = go (m .«has_prev_reverse» && ltb 0 (highest - m .«prev_reverse_highest»))
-  where
-    moved : MmpMetrics
-    moved = withReverseRatio m (deliveryRatio (packets - m .«prev_reverse_packets») (highest - m .«prev_reverse_highest»))
-
-    go : (b : Bool) → Tallied (withReverse (cond b moved m) packets highest true)
-    go true = t
-    go false = t
+unfolding reversed
+reversed-tallied m packets highest t = by-reverse Tallied m packets highest (λ h. t) t
 
 pub reverse-keeps-rule : (m : MmpMetrics) (packets highest : ℕ) → packets < 2 ^ 64 → highest < 2 ^ 64 → Floats m → reverseOf m packets highest .refusal ≡ 0
     → keepsRule (reverseOf m packets highest .state) ≡ true
@@ -88,46 +83,39 @@ reverse-keeps-rule m packets highest p l f h =
 
 -- ---- a report
 -- one more report, and at most one more sample, zero or failure
-counted-tallied : (m : MmpMetrics) → Tallied m → Tallied (counted m)
-unfolding counted
-counted-tallied m t =
-    let l = leb-true (m .«rtt_samples» + m .«rtt_zero» + m .«rtt_arith_fail») (m .«reports_seen») t in
-    le-leb (m .«rtt_samples» + m .«rtt_zero» + m .«rtt_arith_fail») (m .«reports_seen» + 1) (omega arith)
-
-trip-tallied : (m : MmpMetrics) (t : RoundTrip) → Tallied m → Tallied (tripTaken (counted m) t)
-unfolding tripTaken sampled counted
+trip-tallied : (m : MmpMetrics) (t : RoundTrip) → Tallied m → Tallied (rttUpdated (counted m) t)
+unfolding rttUpdated sampled counted
 trip-tallied m t h = go t (leb-true (m .«rtt_samples» + m .«rtt_zero» + m .«rtt_arith_fail») (m .«reports_seen») h)
   where
-    go : (t : RoundTrip) → m .«rtt_samples» + m .«rtt_zero» + m .«rtt_arith_fail» ≤ m .«reports_seen» → Tallied (tripTaken (counted m) t)
+    go : (t : RoundTrip) → m .«rtt_samples» + m .«rtt_zero» + m .«rtt_arith_fail» ≤ m .«reports_seen» → Tallied (rttUpdated (counted m) t)
     go NoEcho l = le-leb (m .«rtt_samples» + m .«rtt_zero» + m .«rtt_arith_fail») (m .«reports_seen» + 1) (omega arith)
     go (Sample ms) l = le-leb (m .«rtt_samples» + 1 + m .«rtt_zero» + m .«rtt_arith_fail») (m .«reports_seen» + 1) (omega arith)
     go Zero l = le-leb (m .«rtt_samples» + (m .«rtt_zero» + 1) + m .«rtt_arith_fail») (m .«reports_seen» + 1) (omega arith)
     go ArithFail l = le-leb (m .«rtt_samples» + m .«rtt_zero» + (m .«rtt_arith_fail» + 1)) (m .«reports_seen» + 1) (omega arith)
 
-taken-tallied : (m : MmpMetrics) (rr : ReceiverReport) (ours now : ℕ) → Tallied m → Tallied (taken (counted m) rr ours now)
-unfolding taken
-taken-tallied m rr ours now t =
-    let l = measured-leaves (tripTaken (counted m) (roundTrip rr ours)) rr now in
-    rw (l .seen, l .samples, l .zeros, l .failures) (trip-tallied m (roundTrip rr ours) t)
+newer-tallied : (m : MmpMetrics) (rr : ReceiverReport) (ours now : ℕ) → Tallied m → Tallied (newerState (counted m) rr ours now)
+unfolding newerState
+newer-tallied m rr ours now t = subst Within (sym (traffic-leaves (rttUpdated (counted m) (roundTrip rr ours)) rr now .1)) (trip-tallied m (roundTrip rr ours) t)
 
 module _ (m : MmpMetrics) (rr : ReceiverReport) (ours now : ℕ) (f : Floats m) (r : Fits rr) (o : ours < 2 ^ 32) where
-  taken-within : processRefusal m now ≡ 0 → InRange (taken (counted m) rr ours now)
-  taken-within h = let y = rule.process-asked m now h in taken-in-range (counted m) rr ours now r o (y .clock) (counted-in-range m (figures m f (y .rule)))
+  newer-within : processRefusal m now ≡ 0 → InRange (newerState (counted m) rr ours now)
+  newer-within h = let y = rule.process-asked m now h in newer-in-range (counted m) rr ours now r o (y .clock) (counted-in-range m (figures m f (y .rule)))
 
   -- stale or not
   pub process-keeps-rule : processOf m rr ours now .refusal ≡ 0 → keepsRule (processOf m rr ours now .state) ≡ true
+  unfolding rttUpdated
   process-keeps-rule e =
       by-case m rr ours now (λ p. keepsRule (p .state) ≡ true)
       (λ h. absurd (h (rw (process-refusal m rr ours now) at e)))
-      (λ h s. let y = rule.process-asked m now h in keeps (counted m) (counted-in-range m (figures m f (y .rule))) (counted-tallied m (rule.kept m (y .rule) .tallies)))
-      (λ h s. keeps (taken (counted m) rr ours now) (taken-within h) (taken-tallied m rr ours now (rule.kept m (rule.process-asked m now h .rule) .tallies)))
+      (λ h s. let y = rule.process-asked m now h in keeps (counted m) (counted-in-range m (figures m f (y .rule))) (trip-tallied m NoEcho (rule.kept m (y .rule) .tallies)))
+      (λ h s. keeps (newerState (counted m) rr ours now) (newer-within h) (newer-tallied m rr ours now (rule.kept m (rule.process-asked m now h .rule) .tallies)))
 
   pub process-floats : Floats (processOf m rr ours now .state)
   process-floats =
       by-case m rr ours now (λ p. Floats (p .state))
       (λ h. f)
-      (λ h s. floats (counted-in-range m (figures m f (rule.process-asked m now h .rule))))
-      (λ h s. floats (taken-within h))
+      (λ h s. floats (counted m) (counted-in-range m (figures m f (rule.process-asked m now h .rule))))
+      (λ h s. floats (newerState (counted m) rr ours now) (newer-within h))
 
 -- ---- f64 stay f64 in the other calls
 by-refusal : (P : MmpMetrics → Type 0) (n : ℕ) {s t : MmpMetrics} → (n ≡ 0 → P t) → P s → P (cond (eqb n 0) t s)
@@ -139,8 +127,8 @@ by-refusal P n {s} {t} accepted refused = go (eqb n 0) refl
 
 pub rekey-floats : (m : MmpMetrics) → Floats m → Floats (rekeyOf m .state)
 unfolding rekeyOf
-rekey-floats m f = by-refusal Floats (refusalOf m) (λ h. floats (rekeyed-in-range m (figures m f (rule.state-asked m h)))) f
+rekey-floats m f = by-refusal Floats (refusalOf m) (λ h. floats (rekeyed m) (rekeyed-in-range m (figures m f (rule.state-asked m h)))) f
 
 pub reverse-floats : (m : MmpMetrics) (packets highest : ℕ) → packets < 2 ^ 64 → highest < 2 ^ 64 → Floats m → Floats (reverseOf m packets highest .state)
 unfolding reverseOf
-reverse-floats m packets highest p l f = by-refusal Floats (refusalOf m) (λ h. floats (reversed-in-range m packets highest p l (figures m f (rule.state-asked m h)))) f
+reverse-floats m packets highest p l f = by-refusal Floats (refusalOf m) (λ h. floats (reversed m packets highest) (reversed-in-range m packets highest p l (figures m f (rule.state-asked m h)))) f

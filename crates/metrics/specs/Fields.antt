@@ -1,4 +1,4 @@
--- The metrics' record with some of its fields set: the other fields stay. Definitions only.
+-- The fields of the metrics' record in groups, and the record with one group set: the other groups stay. Definitions only.
 use mathlib.Core.Bool.{Bool}
 use Prim.Native.Nat.{ℕ}
 use lib.Ieee.{Float}
@@ -9,223 +9,126 @@ use Rattle.algorithms.specs.declared.srtt.SrttEstimator.{SrttEstimator}
 use Rattle.figures.specs.declared.Counters.{Counters}
 use Rattle.metrics.specs.declared.MmpMetrics.{MmpMetrics}
 
--- the reports seen, and those with a zero or a failed round trip
-abbrev pub withTallies : MmpMetrics → ℕ → ℕ → ℕ → MmpMetrics
-withTallies m seen zeros failures =
-    record {
-      srtt = m .srtt;
-      «rtt_trend» = m .«rtt_trend»;
-      «loss_trend» = m .«loss_trend»;
-      «goodput_trend» = m .«goodput_trend»;
-      «jitter_trend» = m .«jitter_trend»;
-      «etx_trend» = m .«etx_trend»;
-      «delivery_ratio_forward» = m .«delivery_ratio_forward»;
-      «delivery_ratio_reverse» = m .«delivery_ratio_reverse»;
-      etx = m .etx;
-      «goodput_bps» = m .«goodput_bps»;
-      «prev_rr_cum_packets» = m .«prev_rr_cum_packets»;
-      «prev_rr_cum_bytes» = m .«prev_rr_cum_bytes»;
-      «prev_rr_highest_counter» = m .«prev_rr_highest_counter»;
-      «prev_rr_ecn_ce» = m .«prev_rr_ecn_ce»;
-      «prev_rr_reorder» = m .«prev_rr_reorder»;
-      «prev_rr_ms» = m .«prev_rr_ms»;
-      «has_prev_rr» = m .«has_prev_rr»;
-      «prev_reverse_packets» = m .«prev_reverse_packets»;
-      «prev_reverse_highest» = m .«prev_reverse_highest»;
-      «has_prev_reverse» = m .«has_prev_reverse»;
-      «reports_seen» = seen;
-      «rtt_samples» = m .«rtt_samples»;
-      «rtt_zero» = zeros;
-      «rtt_arith_fail» = failures;
-      «last_rtt_ms» = m .«last_rtt_ms»;
-    }
+-- ---- the groups
+-- SRTT and RTTVAR, the round trip's trend, and the last sample
+pub record Rtt : Type 0 where
+  pub estimator : SrttEstimator
+  pub trend : DualEwma
+  pub last : OptionU32
 
--- the reports seen alone
-abbrev pub withSeen : MmpMetrics → ℕ → MmpMetrics
-withSeen m seen = withTallies m seen (m .«rtt_zero») (m .«rtt_arith_fail»)
+-- the other trends
+pub record Trends : Type 0 where
+  pub loss : DualEwma
+  pub goodput : DualEwma
+  pub jitter : DualEwma
+  pub etx : DualEwma
 
--- the smoothed round trip, its trend, the samples and the last of them
-abbrev pub withRoundTrip : MmpMetrics → SrttEstimator → DualEwma → ℕ → OptionU32 → MmpMetrics
-withRoundTrip m estimator trend samples last =
-    record {
-      srtt = estimator;
-      «rtt_trend» = trend;
-      «loss_trend» = m .«loss_trend»;
-      «goodput_trend» = m .«goodput_trend»;
-      «jitter_trend» = m .«jitter_trend»;
-      «etx_trend» = m .«etx_trend»;
-      «delivery_ratio_forward» = m .«delivery_ratio_forward»;
-      «delivery_ratio_reverse» = m .«delivery_ratio_reverse»;
-      etx = m .etx;
-      «goodput_bps» = m .«goodput_bps»;
-      «prev_rr_cum_packets» = m .«prev_rr_cum_packets»;
-      «prev_rr_cum_bytes» = m .«prev_rr_cum_bytes»;
-      «prev_rr_highest_counter» = m .«prev_rr_highest_counter»;
-      «prev_rr_ecn_ce» = m .«prev_rr_ecn_ce»;
-      «prev_rr_reorder» = m .«prev_rr_reorder»;
-      «prev_rr_ms» = m .«prev_rr_ms»;
-      «has_prev_rr» = m .«has_prev_rr»;
-      «prev_reverse_packets» = m .«prev_reverse_packets»;
-      «prev_reverse_highest» = m .«prev_reverse_highest»;
-      «has_prev_reverse» = m .«has_prev_reverse»;
-      «reports_seen» = m .«reports_seen»;
-      «rtt_samples» = samples;
-      «rtt_zero» = m .«rtt_zero»;
-      «rtt_arith_fail» = m .«rtt_arith_fail»;
-      «last_rtt_ms» = last;
-    }
-
--- the delivery ratios and ETX
-abbrev pub withRatios : MmpMetrics → Float → Float → Float → MmpMetrics
-withRatios m forward reverse e =
-    record {
-      srtt = m .srtt;
-      «rtt_trend» = m .«rtt_trend»;
-      «loss_trend» = m .«loss_trend»;
-      «goodput_trend» = m .«goodput_trend»;
-      «jitter_trend» = m .«jitter_trend»;
-      «etx_trend» = m .«etx_trend»;
-      «delivery_ratio_forward» = forward;
-      «delivery_ratio_reverse» = reverse;
-      etx = e;
-      «goodput_bps» = m .«goodput_bps»;
-      «prev_rr_cum_packets» = m .«prev_rr_cum_packets»;
-      «prev_rr_cum_bytes» = m .«prev_rr_cum_bytes»;
-      «prev_rr_highest_counter» = m .«prev_rr_highest_counter»;
-      «prev_rr_ecn_ce» = m .«prev_rr_ecn_ce»;
-      «prev_rr_reorder» = m .«prev_rr_reorder»;
-      «prev_rr_ms» = m .«prev_rr_ms»;
-      «has_prev_rr» = m .«has_prev_rr»;
-      «prev_reverse_packets» = m .«prev_reverse_packets»;
-      «prev_reverse_highest» = m .«prev_reverse_highest»;
-      «has_prev_reverse» = m .«has_prev_reverse»;
-      «reports_seen» = m .«reports_seen»;
-      «rtt_samples» = m .«rtt_samples»;
-      «rtt_zero» = m .«rtt_zero»;
-      «rtt_arith_fail» = m .«rtt_arith_fail»;
-      «last_rtt_ms» = m .«last_rtt_ms»;
-    }
-
--- the trends of loss, goodput, jitter and ETX
-abbrev pub withTrends : MmpMetrics → DualEwma → DualEwma → DualEwma → DualEwma → MmpMetrics
-withTrends m loss goodput jitter e =
-    record {
-      srtt = m .srtt;
-      «rtt_trend» = m .«rtt_trend»;
-      «loss_trend» = loss;
-      «goodput_trend» = goodput;
-      «jitter_trend» = jitter;
-      «etx_trend» = e;
-      «delivery_ratio_forward» = m .«delivery_ratio_forward»;
-      «delivery_ratio_reverse» = m .«delivery_ratio_reverse»;
-      etx = m .etx;
-      «goodput_bps» = m .«goodput_bps»;
-      «prev_rr_cum_packets» = m .«prev_rr_cum_packets»;
-      «prev_rr_cum_bytes» = m .«prev_rr_cum_bytes»;
-      «prev_rr_highest_counter» = m .«prev_rr_highest_counter»;
-      «prev_rr_ecn_ce» = m .«prev_rr_ecn_ce»;
-      «prev_rr_reorder» = m .«prev_rr_reorder»;
-      «prev_rr_ms» = m .«prev_rr_ms»;
-      «has_prev_rr» = m .«has_prev_rr»;
-      «prev_reverse_packets» = m .«prev_reverse_packets»;
-      «prev_reverse_highest» = m .«prev_reverse_highest»;
-      «has_prev_reverse» = m .«has_prev_reverse»;
-      «reports_seen» = m .«reports_seen»;
-      «rtt_samples» = m .«rtt_samples»;
-      «rtt_zero» = m .«rtt_zero»;
-      «rtt_arith_fail» = m .«rtt_arith_fail»;
-      «last_rtt_ms» = m .«last_rtt_ms»;
-    }
-
--- the smoothed goodput
-abbrev pub withGoodput : MmpMetrics → Float → MmpMetrics
-withGoodput m goodput =
-    record {
-      srtt = m .srtt;
-      «rtt_trend» = m .«rtt_trend»;
-      «loss_trend» = m .«loss_trend»;
-      «goodput_trend» = m .«goodput_trend»;
-      «jitter_trend» = m .«jitter_trend»;
-      «etx_trend» = m .«etx_trend»;
-      «delivery_ratio_forward» = m .«delivery_ratio_forward»;
-      «delivery_ratio_reverse» = m .«delivery_ratio_reverse»;
-      etx = m .etx;
-      «goodput_bps» = goodput;
-      «prev_rr_cum_packets» = m .«prev_rr_cum_packets»;
-      «prev_rr_cum_bytes» = m .«prev_rr_cum_bytes»;
-      «prev_rr_highest_counter» = m .«prev_rr_highest_counter»;
-      «prev_rr_ecn_ce» = m .«prev_rr_ecn_ce»;
-      «prev_rr_reorder» = m .«prev_rr_reorder»;
-      «prev_rr_ms» = m .«prev_rr_ms»;
-      «has_prev_rr» = m .«has_prev_rr»;
-      «prev_reverse_packets» = m .«prev_reverse_packets»;
-      «prev_reverse_highest» = m .«prev_reverse_highest»;
-      «has_prev_reverse» = m .«has_prev_reverse»;
-      «reports_seen» = m .«reports_seen»;
-      «rtt_samples» = m .«rtt_samples»;
-      «rtt_zero» = m .«rtt_zero»;
-      «rtt_arith_fail» = m .«rtt_arith_fail»;
-      «last_rtt_ms» = m .«last_rtt_ms»;
-    }
+-- the delivery ratios, ETX by them, and the goodput
+pub record Ratios : Type 0 where
+  pub forward : Float
+  pub reverse : Float
+  pub etx : Float
+  pub goodput : Float
 
 -- the counters kept of a report, its time, and whether there is one
-abbrev pub withSaved : MmpMetrics → Counters → OptionU64 → Bool → MmpMetrics
-withSaved m kept ms has =
-    record {
-      srtt = m .srtt;
-      «rtt_trend» = m .«rtt_trend»;
-      «loss_trend» = m .«loss_trend»;
-      «goodput_trend» = m .«goodput_trend»;
-      «jitter_trend» = m .«jitter_trend»;
-      «etx_trend» = m .«etx_trend»;
-      «delivery_ratio_forward» = m .«delivery_ratio_forward»;
-      «delivery_ratio_reverse» = m .«delivery_ratio_reverse»;
-      etx = m .etx;
-      «goodput_bps» = m .«goodput_bps»;
-      «prev_rr_cum_packets» = kept .packets;
-      «prev_rr_cum_bytes» = kept .bytes;
-      «prev_rr_highest_counter» = kept .highest;
-      «prev_rr_ecn_ce» = kept .ecn;
-      «prev_rr_reorder» = kept .reorders;
-      «prev_rr_ms» = ms;
-      «has_prev_rr» = has;
-      «prev_reverse_packets» = m .«prev_reverse_packets»;
-      «prev_reverse_highest» = m .«prev_reverse_highest»;
-      «has_prev_reverse» = m .«has_prev_reverse»;
-      «reports_seen» = m .«reports_seen»;
-      «rtt_samples» = m .«rtt_samples»;
-      «rtt_zero» = m .«rtt_zero»;
-      «rtt_arith_fail» = m .«rtt_arith_fail»;
-      «last_rtt_ms» = m .«last_rtt_ms»;
-    }
+pub record KeptReport : Type 0 where
+  pub counters : Counters
+  pub ms : OptionU64
+  pub has : Bool
 
 -- the reverse side's packets and highest counter, and whether there are any
-abbrev pub withReverse : MmpMetrics → ℕ → ℕ → Bool → MmpMetrics
-withReverse m packets highest has =
+pub record Reverse : Type 0 where
+  pub packets : ℕ
+  pub highest : ℕ
+  pub has : Bool
+
+-- the reports seen, and those with a sample, a zero or a failed round trip
+pub record Tallies : Type 0 where
+  pub seen : ℕ
+  pub samples : ℕ
+  pub zeros : ℕ
+  pub failures : ℕ
+
+-- ---- the record of them
+abbrev pub assembled : Rtt → Trends → Ratios → KeptReport → Reverse → Tallies → MmpMetrics
+assembled rtt trends ratios kept reverse tallies =
     record {
-      srtt = m .srtt;
-      «rtt_trend» = m .«rtt_trend»;
-      «loss_trend» = m .«loss_trend»;
-      «goodput_trend» = m .«goodput_trend»;
-      «jitter_trend» = m .«jitter_trend»;
-      «etx_trend» = m .«etx_trend»;
-      «delivery_ratio_forward» = m .«delivery_ratio_forward»;
-      «delivery_ratio_reverse» = m .«delivery_ratio_reverse»;
-      etx = m .etx;
-      «goodput_bps» = m .«goodput_bps»;
-      «prev_rr_cum_packets» = m .«prev_rr_cum_packets»;
-      «prev_rr_cum_bytes» = m .«prev_rr_cum_bytes»;
-      «prev_rr_highest_counter» = m .«prev_rr_highest_counter»;
-      «prev_rr_ecn_ce» = m .«prev_rr_ecn_ce»;
-      «prev_rr_reorder» = m .«prev_rr_reorder»;
-      «prev_rr_ms» = m .«prev_rr_ms»;
-      «has_prev_rr» = m .«has_prev_rr»;
-      «prev_reverse_packets» = packets;
-      «prev_reverse_highest» = highest;
-      «has_prev_reverse» = has;
-      «reports_seen» = m .«reports_seen»;
-      «rtt_samples» = m .«rtt_samples»;
-      «rtt_zero» = m .«rtt_zero»;
-      «rtt_arith_fail» = m .«rtt_arith_fail»;
-      «last_rtt_ms» = m .«last_rtt_ms»;
+      srtt = rtt .estimator;
+      «rtt_trend» = rtt .trend;
+      «loss_trend» = trends .loss;
+      «goodput_trend» = trends .goodput;
+      «jitter_trend» = trends .jitter;
+      «etx_trend» = trends .etx;
+      «delivery_ratio_forward» = ratios .forward;
+      «delivery_ratio_reverse» = ratios .reverse;
+      etx = ratios .etx;
+      «goodput_bps» = ratios .goodput;
+      «prev_rr_cum_packets» = kept .counters .packets;
+      «prev_rr_cum_bytes» = kept .counters .bytes;
+      «prev_rr_highest_counter» = kept .counters .highest;
+      «prev_rr_ecn_ce» = kept .counters .ecn;
+      «prev_rr_reorder» = kept .counters .reorders;
+      «prev_rr_ms» = kept .ms;
+      «has_prev_rr» = kept .has;
+      «prev_reverse_packets» = reverse .packets;
+      «prev_reverse_highest» = reverse .highest;
+      «has_prev_reverse» = reverse .has;
+      «reports_seen» = tallies .seen;
+      «rtt_samples» = tallies .samples;
+      «rtt_zero» = tallies .zeros;
+      «rtt_arith_fail» = tallies .failures;
+      «last_rtt_ms» = rtt .last;
     }
+
+module _ (m : MmpMetrics) where
+  -- ---- its groups
+  abbrev pub rttIn : Rtt
+  rttIn = record { estimator = m .srtt; trend = m .«rtt_trend»; last = m .«last_rtt_ms» }
+
+  abbrev pub trendsIn : Trends
+  trendsIn = record { loss = m .«loss_trend»; goodput = m .«goodput_trend»; jitter = m .«jitter_trend»; etx = m .«etx_trend» }
+
+  abbrev pub ratiosIn : Ratios
+  ratiosIn = record { forward = m .«delivery_ratio_forward»; reverse = m .«delivery_ratio_reverse»; etx = m .etx; goodput = m .«goodput_bps» }
+
+  abbrev pub countersIn : Counters
+  countersIn =
+      record {
+        highest = m .«prev_rr_highest_counter»;
+        packets = m .«prev_rr_cum_packets»;
+        bytes = m .«prev_rr_cum_bytes»;
+        ecn = m .«prev_rr_ecn_ce»;
+        reorders = m .«prev_rr_reorder»;
+      }
+
+  abbrev pub keptIn : KeptReport
+  keptIn = record { counters = countersIn; ms = m .«prev_rr_ms»; has = m .«has_prev_rr» }
+
+  abbrev pub reverseIn : Reverse
+  reverseIn = record { packets = m .«prev_reverse_packets»; highest = m .«prev_reverse_highest»; has = m .«has_prev_reverse» }
+
+  abbrev pub talliesIn : Tallies
+  talliesIn = record { seen = m .«reports_seen»; samples = m .«rtt_samples»; zeros = m .«rtt_zero»; failures = m .«rtt_arith_fail» }
+
+  -- ---- with one group set
+  abbrev pub withRtt : Rtt → MmpMetrics
+  withRtt r = assembled r trendsIn ratiosIn keptIn reverseIn talliesIn
+
+  abbrev pub withTrends : Trends → MmpMetrics
+  withTrends t = assembled rttIn t ratiosIn keptIn reverseIn talliesIn
+
+  abbrev pub withRatios : Ratios → MmpMetrics
+  withRatios r = assembled rttIn trendsIn r keptIn reverseIn talliesIn
+
+  abbrev pub withKept : KeptReport → MmpMetrics
+  withKept k = assembled rttIn trendsIn ratiosIn k reverseIn talliesIn
+
+  abbrev pub withReverse : Reverse → MmpMetrics
+  withReverse r = assembled rttIn trendsIn ratiosIn keptIn r talliesIn
+
+  abbrev pub withTallies : Tallies → MmpMetrics
+  withTallies t = assembled rttIn trendsIn ratiosIn keptIn reverseIn t
+
+  -- the reports seen alone
+  abbrev pub withSeen : ℕ → MmpMetrics
+  withSeen seen = withTallies (record { seen = seen; samples = m .«rtt_samples»; zeros = m .«rtt_zero»; failures = m .«rtt_arith_fail» })

@@ -20,7 +20,7 @@ use Rattle.figures.specs.RoundTrips.{roundTrip, sampleUs, millisecondsOf}
 use Rattle.figures.specs.Stale.{countersOf, stale}
 use Rattle.figures.specs.declared.RoundTrip.{RoundTrip}
 use Rattle.figures.specs.declared.RoundTrip.the-variants.{NoEcho, Sample, Zero, ArithFail}
-use Rattle.metrics.specs.Fields.{withTallies, withSeen, withRoundTrip, withRatios, withTrends, withGoodput, withSaved}
+use Rattle.metrics.specs.Fields.{withRtt, withTrends, withRatios, withKept, withTallies, withSeen}
 use Rattle.metrics.specs.State.{keepsRule, savedIn}
 use Rattle.metrics.specs.declared.MmpMetrics.{MmpMetrics}
 use Rattle.metrics.specs.declared.Outcome.{Outcome}
@@ -36,7 +36,13 @@ counted m = withSeen m (m .«reports_seen» + 1)
 -- a sample moves SRTT, RTTVAR and the trend; it is the last
 unfoldable pub sampled : MmpMetrics → ℕ → MmpMetrics
 sampled m ms =
-    withRoundTrip m (estimator.stepped (m .srtt) (pos (sampleUs ms))) (ewma.stepped (m .«rtt_trend») (ofInt binary64 (pos (sampleUs ms)))) (m .«rtt_samples» + 1) (optionU32.Some ms)
+    withTallies
+    (withRtt m (record {
+      estimator = estimator.stepped (m .srtt) (pos (sampleUs ms));
+      trend = ewma.stepped (m .«rtt_trend») (ofInt binary64 (pos (sampleUs ms)));
+      last = optionU32.Some ms;
+    }))
+    (record { seen = m .«reports_seen»; samples = m .«rtt_samples» + 1; zeros = m .«rtt_zero»; failures = m .«rtt_arith_fail» })
 
 -- one more of each count fits
 pub record Room (m : MmpMetrics) : Type 0 where
@@ -45,31 +51,35 @@ pub record Room (m : MmpMetrics) : Type 0 where
   pub failures : m .«rtt_arith_fail» + 1 < 2 ^ 64
 
 -- any other echo is counted alone
-unfoldable pub tripTaken : MmpMetrics → RoundTrip → MmpMetrics
-tripTaken m NoEcho = m
-tripTaken m (Sample ms) = sampled m ms
-tripTaken m Zero = withTallies m (m .«reports_seen») (m .«rtt_zero» + 1) (m .«rtt_arith_fail»)
-tripTaken m ArithFail = withTallies m (m .«reports_seen») (m .«rtt_zero») (m .«rtt_arith_fail» + 1)
+unfoldable pub rttUpdated : MmpMetrics → RoundTrip → MmpMetrics
+rttUpdated m NoEcho = m
+rttUpdated m (Sample ms) = sampled m ms
+rttUpdated m Zero = withTallies m (record { seen = m .«reports_seen»; samples = m .«rtt_samples»; zeros = m .«rtt_zero» + 1; failures = m .«rtt_arith_fail» })
+rttUpdated m ArithFail = withTallies m (record { seen = m .«reports_seen»; samples = m .«rtt_samples»; zeros = m .«rtt_zero»; failures = m .«rtt_arith_fail» + 1 })
 
 -- "An RTT log entry carries the whole milliseconds and the SRTT from before the sample", in ms
-unfoldable pub tripLog : MmpMetrics → RoundTrip → RrLog
-tripLog m NoEcho = log.None
-tripLog m (Sample ms) = log.RttSample ms (millisecondsOf (m .srtt .«srtt_us»))
-tripLog m Zero = log.InvalidRtt
-tripLog m ArithFail = log.InvalidRtt
+unfoldable pub rttLog : MmpMetrics → RoundTrip → RrLog
+rttLog m NoEcho = log.None
+rttLog m (Sample ms) = log.RttSample ms (millisecondsOf (m .srtt .«srtt_us»))
+rttLog m Zero = log.InvalidRtt
+rttLog m ArithFail = log.InvalidRtt
 
 -- ---- delivery: the forward ratio, the loss trend by it, ETX, and ETX's trend
 abbrev pub withForward : MmpMetrics → Float → MmpMetrics
 withForward m ratio =
-    withTrends (withRatios m ratio (m .«delivery_ratio_reverse») (etxOf ratio (m .«delivery_ratio_reverse»)))
-    (ewma.stepped (m .«loss_trend») (complement binary64 ratio))
-    (m .«goodput_trend»)
-    (m .«jitter_trend»)
-    (ewma.stepped (m .«etx_trend») (etxOf ratio (m .«delivery_ratio_reverse»)))
+    let e = etxOf ratio (m .«delivery_ratio_reverse») in
+    withTrends
+    (withRatios m (record { forward = ratio; reverse = m .«delivery_ratio_reverse»; etx = e; goodput = m .«goodput_bps» }))
+    (record {
+      loss = ewma.stepped (m .«loss_trend») (complement binary64 ratio);
+      goodput = m .«goodput_trend»;
+      jitter = m .«jitter_trend»;
+      etx = ewma.stepped (m .«etx_trend») e;
+    })
 
 -- where a report is kept and the highest counter rose; a count that fell counts as 0
-unfoldable pub delivered : MmpMetrics → ReceiverReport → MmpMetrics
-delivered m rr =
+unfoldable pub deliveryUpdated : MmpMetrics → ReceiverReport → MmpMetrics
+deliveryUpdated m rr =
     cond (m .«has_prev_rr» && ltb 0 (rr .«highest_counter» - m .«prev_rr_highest_counter»))
     (withForward m (deliveryRatio (rr .«cumulative_packets_recv» - m .«prev_rr_cum_packets») (rr .«highest_counter» - m .«prev_rr_highest_counter»)))
     m
@@ -77,45 +87,56 @@ delivered m rr =
 -- ---- goodput: its trend by the bytes since the report kept, and bytes per second
 abbrev pub withBytes : MmpMetrics → ℕ → ℕ → MmpMetrics
 withBytes m bytes now =
-    withGoodput (withTrends m (m .«loss_trend») (ewma.stepped (m .«goodput_trend») (ofInt binary64 (pos bytes))) (m .«jitter_trend») (m .«etx_trend»))
-    (goodputAfter (m .«goodput_bps») bytes (m .«prev_rr_ms») now)
+    withTrends
+    (withRatios m (record {
+      forward = m .«delivery_ratio_forward»;
+      reverse = m .«delivery_ratio_reverse»;
+      etx = m .etx;
+      goodput = goodputAfter (m .«goodput_bps») bytes (m .«prev_rr_ms») now;
+    }))
+    (record { loss = m .«loss_trend»; goodput = ewma.stepped (m .«goodput_trend») (ofInt binary64 (pos bytes)); jitter = m .«jitter_trend»; etx = m .«etx_trend» })
 
-unfoldable pub carried : MmpMetrics → ReceiverReport → ℕ → MmpMetrics
-carried m rr now = cond (m .«has_prev_rr») (withBytes m (rr .«cumulative_bytes_recv» - m .«prev_rr_cum_bytes») now) m
+unfoldable pub goodputUpdated : MmpMetrics → ReceiverReport → ℕ → MmpMetrics
+goodputUpdated m rr now = cond (m .«has_prev_rr») (withBytes m (rr .«cumulative_bytes_recv» - m .«prev_rr_cum_bytes») now) m
 
 -- ---- the jitter trend
-unfoldable pub jittered : MmpMetrics → ReceiverReport → MmpMetrics
-jittered m rr = withTrends m (m .«loss_trend») (m .«goodput_trend») (ewma.stepped (m .«jitter_trend») (ofInt binary64 (pos (rr .jitter)))) (m .«etx_trend»)
+unfoldable pub jitterTrendUpdated : MmpMetrics → ReceiverReport → MmpMetrics
+jitterTrendUpdated m rr =
+    withTrends m
+    (record { loss = m .«loss_trend»; goodput = m .«goodput_trend»; jitter = ewma.stepped (m .«jitter_trend») (ofInt binary64 (pos (rr .jitter))); etx = m .«etx_trend» })
 
 -- ---- the saved counters, with the report's time
-unfoldable pub kept : MmpMetrics → ReceiverReport → ℕ → MmpMetrics
-kept m rr now = withSaved m (countersOf rr) (optionU64.Some now) true
+unfoldable pub countersSaved : MmpMetrics → ReceiverReport → ℕ → MmpMetrics
+countersSaved m rr now = withKept m (record { counters = countersOf rr; ms = optionU64.Some now; has = true })
 
 -- ---- the whole, of a record whose report is counted
 -- what follows the round trip
-unfoldable pub measured : MmpMetrics → ReceiverReport → ℕ → MmpMetrics
-measured m rr now = kept (jittered (carried (delivered m rr) rr now) rr) rr now
+unfoldable pub trafficUpdated : MmpMetrics → ReceiverReport → ℕ → MmpMetrics
+trafficUpdated m rr now = countersSaved (jitterTrendUpdated (goodputUpdated (deliveryUpdated m rr) rr now) rr) rr now
 
 -- a report that is not stale
-unfoldable pub taken : MmpMetrics → ReceiverReport → ℕ → ℕ → MmpMetrics
-taken m rr ours now = measured (tripTaken m (roundTrip rr ours)) rr now
+unfoldable pub newerState : MmpMetrics → ReceiverReport → ℕ → ℕ → MmpMetrics
+newerState m rr ours now = trafficUpdated (rttUpdated m (roundTrip rr ours)) rr now
 
 -- the outcome: whether SRTT has just become known, and beside it the log entry
 abbrev pub outcomeOf : Bool → RrLog → Outcome
 outcomeOf first entry = record { «first_srtt» = first; log = entry }
 
-abbrev pub staleOutcome : MmpMetrics → Outcome
-staleOutcome m = outcomeOf false (log.Stale (m .«prev_rr_highest_counter») (m .«prev_rr_cum_packets») (m .«prev_rr_cum_bytes»))
-
-abbrev pub takenOutcome : MmpMetrics → ReceiverReport → ℕ → ℕ → Outcome
-takenOutcome m rr ours now = outcomeOf (not (m .srtt .initialized) && taken m rr ours now .srtt .initialized) (tripLog m (roundTrip rr ours))
-
 abbrev pub answered : ℕ → MmpMetrics → Outcome → ReportProcessed
 answered n m o = record { refusal = n; state = m; outcome = o }
 
+abbrev pub newerOutcome : MmpMetrics → ReceiverReport → ℕ → ℕ → Outcome
+newerOutcome m rr ours now = outcomeOf (not (m .srtt .initialized) && newerState m rr ours now .srtt .initialized) (rttLog m (roundTrip rr ours))
+
+abbrev pub newerReport : MmpMetrics → ReceiverReport → ℕ → ℕ → ReportProcessed
+newerReport m rr ours now = answered 0 (newerState m rr ours now) (newerOutcome m rr ours now)
+
 -- a stale report moves nothing
+abbrev pub staleReport : MmpMetrics → ReportProcessed
+staleReport m = answered 0 m (outcomeOf false (log.Stale (m .«prev_rr_highest_counter») (m .«prev_rr_cum_packets») (m .«prev_rr_cum_bytes»)))
+
 unfoldable pub processed : MmpMetrics → ReceiverReport → ℕ → ℕ → ReportProcessed
-processed m rr ours now = cond (stale (savedIn m) rr) (answered 0 m (staleOutcome m)) (answered 0 (taken m rr ours now) (takenOutcome m rr ours now))
+processed m rr ours now = cond (stale (savedIn m) rr) (staleReport m) (newerReport m rr ours now)
 
 -- ---- behind the questions
 -- document 01, the checks: questions 1, 2 and 10. 8 is not asked: each round trip here is in its range

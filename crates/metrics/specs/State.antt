@@ -1,6 +1,5 @@
 -- The metrics' record, its rule and what a new one holds: document 01, the state rule, and metrics.rs. Definitions only.
-use mathlib.Core.Path.{_≡_}
-use mathlib.Core.Bool.{Bool, true, false, cond, _&&_}
+use mathlib.Core.Bool.{Bool, false, cond, _&&_}
 use mathlib.Core.List.{[], _∷_}
 use Prim.Native.Nat.{ℕ}
 use lib.Dec.{eqb}
@@ -14,7 +13,7 @@ use Rattle.algorithms.specs.Srtt as estimator
 use Rattle.figures.specs.Goodput.{goodputOk}
 use Rattle.figures.specs.RoundTrips.{talliesOk}
 use Rattle.figures.specs.Stale.{Saved, none, saved}
-use Rattle.figures.specs.declared.Counters.{Counters}
+use Rattle.metrics.specs.Fields.{countersIn}
 use Rattle.metrics.specs.declared.MmpMetrics.{MmpMetrics}
 use Rattle.metrics.specs.declared.MetricsUpdate.{MetricsUpdate}
 
@@ -40,21 +39,6 @@ keepsRule m =
     && trendsOk m
     && ratiosOk m
     && talliesOk (m .«reports_seen») (m .«rtt_samples») (m .«rtt_zero») (m .«rtt_arith_fail»)
-
--- the rule's clauses by name
-pub record Kept (m : MmpMetrics) : Type 0 where
-  pub clock : optionalClockOk (m .«prev_rr_ms») ≡ true
-  pub round-trip : estimator.keepsRule (m .srtt) ≡ true
-  pub rtt-trend : ewma.keepsRule (m .«rtt_trend») ≡ true
-  pub loss-trend : ewma.keepsRule (m .«loss_trend») ≡ true
-  pub goodput-trend : ewma.keepsRule (m .«goodput_trend») ≡ true
-  pub jitter-trend : ewma.keepsRule (m .«jitter_trend») ≡ true
-  pub etx-trend : ewma.keepsRule (m .«etx_trend») ≡ true
-  pub forward : ratioOk (m .«delivery_ratio_forward») ≡ true
-  pub reverse : ratioOk (m .«delivery_ratio_reverse») ≡ true
-  pub etx : etxOk (m .etx) ≡ true
-  pub goodput : goodputOk (m .«goodput_bps») ≡ true
-  pub tallies : talliesOk (m .«reports_seen») (m .«rtt_samples») (m .«rtt_zero») (m .«rtt_arith_fail») ≡ true
 
 -- ---- a new record: metrics.rs, `new`. Nothing measured, every frame thought delivered
 abbrev pub fresh : MmpMetrics
@@ -88,18 +72,7 @@ fresh =
     }
 
 -- ---- the report kept, for the stale test
--- the record keeps packets, bytes, highest, ECN and reorders
-abbrev pub countersIn : MmpMetrics → Counters
-countersIn m =
-    record {
-      highest = m .«prev_rr_highest_counter»;
-      packets = m .«prev_rr_cum_packets»;
-      bytes = m .«prev_rr_cum_bytes»;
-      ecn = m .«prev_rr_ecn_ce»;
-      reorders = m .«prev_rr_reorder»;
-    }
-
--- they count where the record says that it has a report, with its time or without
+-- its counters count where the record says that it has a report, with its time or without
 unfoldable pub savedIn : MmpMetrics → Saved
 savedIn m = cond (m .«has_prev_rr») (saved (countersIn m)) none
 

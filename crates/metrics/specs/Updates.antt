@@ -8,7 +8,7 @@ use Rattle.refusals.specs.declared.option.OptionU64.the-variants.{None}
 use Rattle.algorithms.specs.Etx.{etxOf}
 use Rattle.figures.specs.Delivery.{deliveryRatio}
 use Rattle.figures.specs.declared.Counters.{Counters}
-use Rattle.metrics.specs.Fields.{withRatios, withSaved, withReverse}
+use Rattle.metrics.specs.Fields.{withRatios, withKept, withReverse}
 use Rattle.metrics.specs.State.{refusalOf, updated}
 use Rattle.metrics.specs.declared.MmpMetrics.{MmpMetrics}
 use Rattle.metrics.specs.declared.MetricsUpdate.{MetricsUpdate}
@@ -20,7 +20,12 @@ noCounters = record { highest = 0; packets = 0; bytes = 0; ecn = 0; reorders = 0
 
 -- "Rekey clears the saved counters and sets the forward ratio to 1; ETX and every other figure stay"
 unfoldable pub rekeyed : MmpMetrics → MmpMetrics
-rekeyed m = withReverse (withSaved (withRatios m one-float (m .«delivery_ratio_reverse») (m .etx)) noCounters None false) 0 0 false
+rekeyed m =
+    withReverse
+    (withKept
+    (withRatios m (record { forward = one-float; reverse = m .«delivery_ratio_reverse»; etx = m .etx; goodput = m .«goodput_bps» }))
+    (record { counters = noCounters; ms = None; has = false }))
+    (record { packets = 0; highest = 0; has = false })
 
 unfoldable pub rekeyOf : MmpMetrics → MetricsUpdate
 rekeyOf m = updated (refusalOf m) m (rekeyed m)
@@ -28,7 +33,8 @@ rekeyOf m = updated (refusalOf m) m (rekeyed m)
 -- ---- the reverse side: what came to us of the frames that the peer sent
 -- the reverse ratio, and ETX by it; no trend moves
 abbrev pub withReverseRatio : MmpMetrics → Float → MmpMetrics
-withReverseRatio m ratio = withRatios m (m .«delivery_ratio_forward») ratio (etxOf (m .«delivery_ratio_forward») ratio)
+withReverseRatio m ratio =
+    withRatios m (record { forward = m .«delivery_ratio_forward»; reverse = ratio; etx = etxOf (m .«delivery_ratio_forward») ratio; goodput = m .«goodput_bps» })
 
 -- the ratio since the update before, where there was one and the peer's counter rose
 unfoldable pub reverseMoved : MmpMetrics → ℕ → ℕ → MmpMetrics
@@ -39,7 +45,7 @@ reverseMoved m packets highest =
 
 -- and both counters kept
 unfoldable pub reversed : MmpMetrics → ℕ → ℕ → MmpMetrics
-reversed m packets highest = withReverse (reverseMoved m packets highest) packets highest true
+reversed m packets highest = withReverse (reverseMoved m packets highest) (record { packets = packets; highest = highest; has = true })
 
 unfoldable pub reverseOf : MmpMetrics → ℕ → ℕ → MetricsUpdate
 reverseOf m packets highest = updated (refusalOf m) m (reversed m packets highest)

@@ -28,7 +28,10 @@ pub enum RrLog {
         prev_bytes: u64,
     },
     // A valid RTT sample was taken: its whole ms, and SRTT in ms as it stood before the sample.
-    RttSample(u32, f64),
+    RttSample {
+        rtt_ms: u32,
+        srtt_ms: f64,
+    },
     // The report carried an echo but the derived RTT was invalid.
     InvalidRtt,
 }

@@ -10,9 +10,9 @@ use algorithms::owd::OwdTrendDetector;
 use refusals::option::OptionU64;
 use samples::delay::OwdReference;
 use samples::delay::base_of_unchecked;
+use samples::delay::sample_owd_unchecked;
 use samples::transit::in_grace;
 use samples::transit::jitter_after_unchecked;
-use samples::delay::sample_owd_unchecked;
 
 impl ReceiverState {
     fn with_timing(

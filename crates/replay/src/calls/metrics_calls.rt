@@ -177,7 +177,7 @@ fn and_log(reply: Reply, log: RrLog) -> Reply {
             .and(prev_highest)
             .and(prev_packets)
             .and(prev_bytes),
-        RrLog::RttSample(rtt_ms, srtt_ms) => reply
+        RrLog::RttSample { rtt_ms, srtt_ms } => reply
             .and(2)
             .and(wide_u32(rtt_ms))
             .and(float_pattern(srtt_ms))

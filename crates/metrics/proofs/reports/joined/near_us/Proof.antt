@@ -1,9 +1,9 @@
--- `metrics::reports::process::near_us` meets its contract. Assumes nothing.
+-- `metrics::reports::joined::near_us` meets its contract. Assumes nothing.
 use mir.Syntax.{w64}
 use mir.Facts.{toZ-ofZ}
 use Rattle.metrics.proofs.WellWithin.{trip-near}
-use Rattle.metrics.proofs.reports.process.near_us.Statement.{statement}
-use Rattle.metrics.proofs.reports.process.near_us.Tie as tie
+use Rattle.metrics.proofs.reports.joined.near_us.Statement.{statement}
+use Rattle.metrics.proofs.reports.joined.near_us.Tie as tie
 
 returns : tie.Need-returns
 returns c h = trip-near (c .args .us) (rw (toZ-ofZ {w = w64} (c .fits .us)) at h)

@@ -1,12 +1,12 @@
--- `metrics::MmpMetrics::deliver` meets its contract. Assumes nothing.
+-- `metrics::MmpMetrics::update_delivery` meets its contract. Assumes nothing.
 use mathlib.Core.Path.{refl}
 use Rattle.refusals.proofs.PickedByTest.{yes, no}
-use Rattle.metrics.specs.Reports.{delivered}
-use Rattle.metrics.proofs.MmpMetrics.deliver.Statement.{statement}
-use Rattle.metrics.proofs.MmpMetrics.deliver.Tie as tie
+use Rattle.metrics.specs.Reports.{deliveryUpdated}
+use Rattle.metrics.proofs.MmpMetrics.update_delivery.Statement.{statement}
+use Rattle.metrics.proofs.MmpMetrics.update_delivery.Tie as tie
 
 moved : tie.Need-returns
-unfolding delivered
+unfolding deliveryUpdated
 moved c =
     let i = c .before .before .before .before .before in
     let s = i .before .before in
@@ -22,8 +22,8 @@ moved c =
     (yes _ (rw (s .before .saturating-sub-u64 .ensures) at (i .if1 .taken)) refl)
 
 left : tie.Need-returns-2
-unfolding delivered
+unfolding deliveryUpdated
 left c = no _ (rw (c .before .before .before .saturating-sub-u64 .ensures) at (c .if1 .left)) refl
 
-pub deliver-spec : {M : Type 1} → statement M
-deliver-spec = tie.close (tie.spec (λ c κs. tt) (λ c κs. tt) (λ c κs. tt) (λ c κs. tt) (λ c κs. tt) (λ c κs. tt) (λ c κs. tt) moved left)
+pub update-delivery-spec : {M : Type 1} → statement M
+update-delivery-spec = tie.close (tie.spec (λ c κs. tt) (λ c κs. tt) (λ c κs. tt) (λ c κs. tt) (λ c κs. tt) (λ c κs. tt) (λ c κs. tt) moved left)
