@@ -3,7 +3,8 @@ ghost use mathlib.Core.Path.{_≡_};
 ghost use lib.IntN.{pos};
 ghost use lib.Ieee as Ieee;
 ghost use lib.Ieee.{binary64};
-ghost use Rattle.floats.specs.Operations.{inRange, clamped, step, one-quarter, one-thirty-second, complement, rounded-quotient, lesser};
+ghost use Rattle.limits.specs.Limits.{ewmaShortAlpha, ewmaLongAlpha};
+ghost use Rattle.floats.specs.Operations.{inRange, clamped, step, complement, rounded-quotient, lesser};
 
 // --- Ranges ---
 
@@ -38,14 +39,14 @@ pub fn least(a: f64, b: f64) -> f64
 
 // The short trend s moved by the sample x.
 pub fn short_step(s: f64, x: f64) -> f64
-    ensures { λ r. ⌜ r ≡ step binary64 one-quarter s x ⌝ }
+    ensures { λ r. ⌜ r ≡ step binary64 ewmaShortAlpha s x ⌝ }
 {
     s + limits::EWMA_SHORT_ALPHA * (x - s)
 }
 
 // The long trend s moved by the sample x.
 pub fn long_step(s: f64, x: f64) -> f64
-    ensures { λ r. ⌜ r ≡ step binary64 one-thirty-second s x ⌝ }
+    ensures { λ r. ⌜ r ≡ step binary64 ewmaLongAlpha s x ⌝ }
 {
     s + limits::EWMA_LONG_ALPHA * (x - s)
 }

@@ -1,5 +1,15 @@
 -- The tuning constants of limits.rs that definitions cite, by the Rust's names. Definitions only.
+use mathlib.Core.Bool.{false}
 use Prim.Native.Nat.{ℕ}
+use lib.IntN.{negsuc}
+use lib.Ieee.{Float, fin}
+
+-- ---- the parts by which a trend moves: 2^-2 and 2^-5
+abbrev pub ewmaShortAlpha : Float
+ewmaShortAlpha = fin false 1 (negsuc 1)
+
+abbrev pub ewmaLongAlpha : Float
+ewmaLongAlpha = fin false 1 (negsuc 4)
 
 -- ---- intervals between reports, in ms
 abbrev pub defaultColdStartInterval : ℕ
