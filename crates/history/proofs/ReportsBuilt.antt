@@ -5,7 +5,8 @@ use mathlib.Core.Bool.{true}
 use mathlib.Core.List.{List}
 use Prim.Native.Nat.{ℕ, _^_, _<_}
 use native.Mathlib.Omega.{arith}
-use Rattle.numbers.specs.Jitter.{JitterAverage, ReportedNear}
+use Rattle.numbers.specs.Jitter.{JitterAverage}
+use Rattle.numbers.proofs.JitterStaysNear.{ReportedNear}
 use Rattle.wire.specs.ReceiverReport.{encodeAnswer}
 use Rattle.wire.specs.declared.receiver_report.ReceiverReport.{ReceiverReport}
 use Rattle.wire.proofs.ReceiverRoundTrip.{jitter-back}
