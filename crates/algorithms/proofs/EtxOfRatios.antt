@@ -18,10 +18,11 @@ use Rattle.floats.proofs.Rounding.{round-number}
 use Rattle.floats.proofs.Products.{mul-commutes}
 use Rattle.floats.proofs.Clamping.{clamp-within, clamp-monotone}
 use Rattle.floats.specs.Operations.{zero-float, one-float, clamped}
-use Rattle.algorithms.specs.Etx.{hundred-float, etxOf}
+use Rattle.refusals.specs.Ranges.{maxEtx}
+use Rattle.algorithms.specs.Etx.{etxOf}
 use Rattle.floats.proofs.Ratios.{Ratio, product-ratio, product-monotone}
 
-ends : T (le one-float hundred-float)
+ends : T (le one-float maxEtx)
 unfolding le
 ends = tt
 
@@ -66,16 +67,16 @@ inverse-falls f p q hp hq h =
 product-above : (x y : Float) → Ratio x → Ratio y → T (not (le (mul binary64 x y) zero-float)) → T (positive (mul binary64 x y))
 product-above x y hx hy = above-zero (mul binary64 x y) (within-finite tt tt (product-ratio binary64 x y hx hy))
 
-pub etx-within : (x y : Float) → Ratio x → Ratio y → Within one-float hundred-float (etxOf x y)
+pub etx-within : (x y : Float) → Ratio x → Ratio y → Within one-float maxEtx (etxOf x y)
 unfolding etxOf
 etx-within x y hx hy = go (le p zero-float) (product-above x y hx hy)
   where
     p : Float
     p = mul binary64 x y
 
-    go : (b : Bool) → (T (not b) → T (positive p)) → Within one-float hundred-float (cond b hundred-float (clamped one-float hundred-float (div binary64 one-float p)))
-    go true h = record { low = ends; high = le-reflexive hundred-float (unfold isNan in tt) }
-    go false h = clamp-within one-float hundred-float ends (div binary64 one-float p) (inverse-number binary64 p (h tt))
+    go : (b : Bool) → (T (not b) → T (positive p)) → Within one-float maxEtx (cond b maxEtx (clamped one-float maxEtx (div binary64 one-float p)))
+    go true h = record { low = ends; high = le-reflexive maxEtx (unfold isNan in tt) }
+    go false h = clamp-within one-float maxEtx ends (div binary64 one-float p) (inverse-number binary64 p (h tt))
 
 -- a larger forward ratio gives no larger ETX
 pub etx-falls-forward : (x x' y : Float) → Ratio x → Ratio x' → Ratio y → T (le x x') → T (le (etxOf x' y) (etxOf x y))
@@ -93,13 +94,13 @@ etx-falls-forward x x' y hx hx' hy h =
     l = product-monotone binary64 x x' y hx hx' hy h
 
     inverse : Float → Float
-    inverse z = clamped one-float hundred-float (div binary64 one-float z)
+    inverse z = clamped one-float maxEtx (div binary64 one-float z)
 
-    go : (b b' : Bool) → (T (not b) → T (not (le p zero-float))) → (T b' → T (le p' zero-float)) → (T (not b) → T (positive p)) → (T (not b') → T (positive p')) → T (le (cond b' hundred-float (inverse p')) hundred-float)
-        → T (le (cond b' hundred-float (inverse p')) (cond b hundred-float (inverse p)))
+    go : (b b' : Bool) → (T (not b) → T (not (le p zero-float))) → (T b' → T (le p' zero-float)) → (T (not b) → T (positive p)) → (T (not b') → T (positive p')) → T (le (cond b' maxEtx (inverse p')) maxEtx)
+        → T (le (cond b' maxEtx (inverse p')) (cond b maxEtx (inverse p)))
     go true b' u v w w' r = r
     go false true u v w w' r = absurd (T-not (le p zero-float) (u tt) (le-transitive p p' zero-float l (v tt)))
-    go false false u v w w' r = clamp-monotone one-float hundred-float ends (div binary64 one-float p') (div binary64 one-float p) (inverse-falls binary64 p p' (w tt) (w' tt) l)
+    go false false u v w w' r = clamp-monotone one-float maxEtx ends (div binary64 one-float p') (div binary64 one-float p) (inverse-falls binary64 p p' (w tt) (w' tt) l)
 
 etx-commutes : (x y : Float) → etxOf x y ≡ etxOf y x
 unfolding etxOf

@@ -5,6 +5,7 @@ use mathlib.Core.List.{[], _∷_}
 use Prim.Native.Nat.{ℕ}
 use lib.Dec.{T}
 use lib.Ieee.{Float, binary64, fits, le}
+use Rattle.limits.specs.Limits.{ewmaShortAlpha, ewmaLongAlpha}
 use Rattle.floats.specs.Operations.{zero-float, weight, step}
 use Rattle.floats.proofs.Ranges.{Within, in-range→within, within→in-range}
 use Rattle.floats.proofs.Smoothing.{step-fits, ewma-within}
@@ -56,11 +57,11 @@ trend-kept n {s} {x} p q = record { float = step-fits binary64 (weight n) s x; w
 -- ---- both trends
 moved-keeps-rule : (begun : Bool) {s l x : Float} → Trend s → Trend l → Trend x → keepsRule (moved begun s l x) ≡ true
 moved-keeps-rule false {s} {l} {x} ps pl px = keeps (moved false s l x) px px
-moved-keeps-rule true {s} {l} {x} ps pl px = keeps (moved true s l x) (trend-kept 1 ps px) (trend-kept 4 pl px)
+moved-keeps-rule true {s} {l} {x} ps pl px = keeps (moved true s l x) (trend-kept _ ps px) (trend-kept _ pl px)
 
 moved-floats : (begun : Bool) (s l x : Float) → T (fits binary64 x) → Floats (moved begun s l x)
 moved-floats false s l x f = record { short = f; long = f }
-moved-floats true s l x f = record { short = step-fits binary64 (weight 1) s x; long = step-fits binary64 (weight 4) l x }
+moved-floats true s l x f = record { short = step-fits binary64 ewmaShortAlpha s x; long = step-fits binary64 ewmaLongAlpha l x }
 
 pub fresh-keeps-rule : keepsRule fresh ≡ true
 unfolding keepsRule le

@@ -22,7 +22,7 @@ trend-between n {s} {x} p q =
     record { rising = b .0; falling = b .1 }
 
 moved-between : (begun : Bool) {s l x : Float} → begun ≡ true → Trend s → Trend l → Trend x → Between s x (moved begun s l x .short) × Between l x (moved begun s l x .long)
-moved-between true e ps pl px = (trend-between 1 ps px, trend-between 4 pl px)
+moved-between true e ps pl px = (trend-between _ ps px, trend-between _ pl px)
 moved-between false e ps pl px = absurd (true≢false (sym e))
 
 -- trends that have begun stay between

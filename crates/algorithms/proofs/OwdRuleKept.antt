@@ -7,6 +7,7 @@ use mathlib.Core.List.{List, [], _∷_}
 use lib.Dec.{leb, ltb, eqb}
 use lib.IntN.{ℤ}
 use borrow.Author.Tests.{leb-true, ltb-true, le-leb, lt-ltb, ltb-false}
+use Rattle.limits.specs.Limits.{minOwdWindowSize, maxOwdWindowSize}
 use Rattle.refusals.specs.Questions.{question, firstNo}
 use Rattle.refusals.proofs.PickedByTest.{picked}
 use Rattle.algorithms.specs.Owd.{capacityOk, countOk, firstOk, keepsRule, Rule, empty, newOf, chosen, clearAnswer, onward, free, grown, pushRefusal, pushAnswer}
@@ -17,20 +18,20 @@ unfolding keepsRule
 rule s h =
     let a = and-eq-true-iff (capacityOk s && countOk s) (firstOk s) .0 h in
     let b = and-eq-true-iff (capacityOk s) (countOk s) .0 (a .0) in
-    let d = and-eq-true-iff (leb 2 (s .capacity)) (leb (s .capacity) 4096) .0 (b .0) in
+    let d = and-eq-true-iff (leb minOwdWindowSize (s .capacity)) (leb (s .capacity) maxOwdWindowSize) .0 (b .0) in
     record {
-      least = leb-true 2 (s .capacity) (d .0);
-      most = leb-true (s .capacity) 4096 (d .1);
+      least = leb-true minOwdWindowSize (s .capacity) (d .0);
+      most = leb-true (s .capacity) maxOwdWindowSize (d .1);
       count = leb-true (s .count) (s .capacity) (b .1);
       first = ltb-true (s .first) (s .capacity) (a .1);
     }
 
 pub keeps : (s : OwdTrendDetector) → Rule s → keepsRule s ≡ true
 unfolding keepsRule
-keeps s r = rw (le-leb 2 (s .capacity) (r .least), le-leb (s .capacity) 4096 (r .most), le-leb (s .count) (s .capacity) (r .count), lt-ltb (s .first) (s .capacity) (r .first))
+keeps s r = rw (le-leb minOwdWindowSize (s .capacity) (r .least), le-leb (s .capacity) maxOwdWindowSize (r .most), le-leb (s .count) (s .capacity) (r .count), lt-ltb (s .first) (s .capacity) (r .first))
 
 -- ---- the states that the calls give
-empty-rule : (n : ℕ) → 2 ≤ n → n ≤ 4096 → Rule (empty n)
+empty-rule : (n : ℕ) → minOwdWindowSize ≤ n → n ≤ maxOwdWindowSize → Rule (empty n)
 empty-rule n l m = record { least = l; most = m; count = omega arith; first = omega arith }
 
 onward-below : (capacity slot n : ℕ) → slot < capacity → n ≤ capacity → onward capacity slot n < capacity
@@ -70,7 +71,7 @@ grown-keeps-rule s h = keeps (grown s) (grown-rule s (rule s h))
 -- ---- the calls
 pub new-keeps-rule : (n : ℕ) → keepsRule (newOf n) ≡ true
 unfolding newOf
-new-keeps-rule n = keeps (empty (max 2 (min n 4096))) (empty-rule (max 2 (min n 4096)) (omega arith) (omega arith))
+new-keeps-rule n = keeps _ (empty-rule (max minOwdWindowSize (min n maxOwdWindowSize)) (omega arith) (omega arith))
 
 chosen-keeps-rule : (b : Bool) (after given : OwdTrendDetector) → keepsRule after ≡ true → keepsRule given ≡ true → keepsRule (chosen b after given) ≡ true
 chosen-keeps-rule true after given p q = p

@@ -4,7 +4,8 @@ use mathlib.Core.List.{[], _∷_}
 use Prim.Native.Nat.{ℕ}
 use lib.Dec.{eqb}
 use lib.Ieee.{Float, binary64}
-use Rattle.floats.specs.Operations.{zero-float, one-quarter, one-thirty-second, step}
+use Rattle.limits.specs.Limits.{ewmaShortAlpha, ewmaLongAlpha}
+use Rattle.floats.specs.Operations.{zero-float, step}
 use Rattle.refusals.specs.Answers.{answerF64, answerBool}
 use Rattle.refusals.specs.Questions.{question, firstNo}
 use Rattle.refusals.specs.Ranges.{trendOk}
@@ -24,7 +25,7 @@ fresh = record { short = zero-float; long = zero-float; initialized = false }
 -- the first sample is both trends; a later one moves them by one quarter and one thirty-second, each operation rounded once
 abbrev pub moved : Bool → Float → Float → Float → DualEwma
 moved false short long x = record { short = x; long = x; initialized = true }
-moved true short long x = record { short = step binary64 one-quarter short x; long = step binary64 one-thirty-second long x; initialized = true }
+moved true short long x = record { short = step binary64 ewmaShortAlpha short x; long = step binary64 ewmaLongAlpha long x; initialized = true }
 
 -- a sample, by whether one came before
 unfoldable pub stepped : DualEwma → Float → DualEwma

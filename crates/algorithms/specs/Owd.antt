@@ -6,6 +6,7 @@ use mathlib.Core.List.{List, [], _∷_, _++_}
 use lib.Dec.{leb, ltb, eqb}
 use lib.IntN.{ℤ}
 use lib.ListN.{length, take, drop, set}
+use Rattle.limits.specs.Limits.{minOwdWindowSize, maxOwdWindowSize}
 use Rattle.refusals.specs.Questions.{question, firstNo}
 use Rattle.refusals.specs.Ranges.{delayOk}
 use Rattle.algorithms.specs.declared.owd.OwdTrendDetector.{OwdTrendDetector}
@@ -14,7 +15,7 @@ use Rattle.algorithms.specs.declared.owd.OwdUpdate.{OwdUpdate}
 -- ---- the rule: document 01, State rule
 -- "Capacity is 2 to 4096"
 abbrev pub capacityOk : OwdTrendDetector → Bool
-capacityOk s = leb 2 (s .capacity) && leb (s .capacity) 4096
+capacityOk s = leb minOwdWindowSize (s .capacity) && leb (s .capacity) maxOwdWindowSize
 
 -- "live count at most capacity"
 abbrev pub countOk : OwdTrendDetector → Bool
@@ -30,8 +31,8 @@ keepsRule s = capacityOk s && countOk s && firstOk s
 
 -- the same, clause by clause
 pub record Rule (s : OwdTrendDetector) : Type 0 where
-  pub least : 2 ≤ s .capacity
-  pub most : s .capacity ≤ 4096
+  pub least : minOwdWindowSize ≤ s .capacity
+  pub most : s .capacity ≤ maxOwdWindowSize
   pub count : s .count ≤ s .capacity
   pub first : s .first < s .capacity
 
@@ -75,9 +76,9 @@ samplesOk (p ∷ ps) = delayOk (p .owd-us) && samplesOk ps
 abbrev pub empty : ℕ → OwdTrendDetector
 empty capacity = record { capacity = capacity; count = 0; first = 0 }
 
--- the capacity brought into 2 to 4096: algorithms.rs, `OwdTrendDetector::new`
+-- the capacity brought into its bounds: algorithms.rs, `OwdTrendDetector::new`
 unfoldable pub newOf : ℕ → OwdTrendDetector
-newOf capacity = empty (max 2 (min capacity 4096))
+newOf capacity = empty (max minOwdWindowSize (min capacity maxOwdWindowSize))
 
 -- the state after a call, or the state as given beside a refusal: document 01, Before any figure
 abbrev pub chosen : Bool → OwdTrendDetector → OwdTrendDetector → OwdTrendDetector

@@ -4,6 +4,7 @@ ghost use mathlib.Core.Path.{_≡_};
 ghost use Rattle.algorithms.specs.Etx.{etxOf, etxAnswer, qualityOf, qualityAnswer};
 use refusals::answer::AnswerF64;
 use refusals::questions::Questions;
+use refusals::ranges::MAX_ETX;
 use refusals::ranges::etx_ok;
 use refusals::ranges::ratio_ok;
 use refusals::ranges::rtt_ms_ok;
@@ -14,9 +15,9 @@ pub fn compute_etx_unchecked(d_forward: f64, d_reverse: f64) -> f64
 {
     let product = d_forward * d_reverse;
     if product <= 0.0 {
-        return 100.0;
+        return MAX_ETX;
     }
-    floats::clamp(1.0 / product, 1.0, 100.0)
+    floats::clamp(1.0 / product, 1.0, MAX_ETX)
 }
 
 // Expected transmission count from the delivery ratios of both directions.

@@ -10,8 +10,8 @@ use numbers::signs::unsigned_abs;
 use refusals::answer::AnswerU32;
 use refusals::questions::Questions;
 
-// 2^35: the greatest scaled jitter, that of |D| = 2^31 for ever.
-pub const MAX_JITTER_Q4: i64 = 34_359_738_368;
+// The greatest scaled jitter, that of |D| = 2^31 for ever.
+pub const MAX_JITTER_Q4: i64 = 1 << 35;
 
 // Smoothed jitter from the differences of transit times between consecutive frames.
 pub struct JitterEstimator {

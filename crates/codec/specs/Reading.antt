@@ -1,5 +1,5 @@
 -- What `Reader`'s methods answer (codec.rs; document 01, check 7), over the bytes of the payload and the place. Definitions only.
-use Prim.Native.Nat.{ℕ, _+_, _-_, min}
+use Prim.Native.Nat.{ℕ, _+_, _-_, _^_, min}
 use mathlib.Core.Bool.{Bool, cond}
 use mathlib.Core.List.{List}
 use lib.ListN.{length, take, drop, replicate}
@@ -24,7 +24,7 @@ within s pos n = leb (pos + n) (length s)
 
 -- place + n, or the greatest usize where the sum would wrap
 unfoldable pub neededFor : ℕ → ℕ → ℕ
-neededFor pos n = min (pos + n) 18446744073709551615
+neededFor pos n = min (pos + n) (2 ^ 64 - 1)
 
 -- enough, or `MessageTooShort` with the two lengths
 unfoldable pub lengthAnswer : List ℕ → ℕ → ℕ → Length

@@ -40,7 +40,7 @@ fn u32_in(s: &[u8], at: usize) -> u32
 {
     let low = u16_in(s, at);
     let high = u16_in(s, at + 2);
-    (low as u32) + 65536 * (high as u32)
+    (low as u32) + (1 << 16) * (high as u32)
 }
 
 fn u64_in(s: &[u8], at: usize) -> u64
@@ -49,7 +49,7 @@ fn u64_in(s: &[u8], at: usize) -> u64
 {
     let low = u32_in(s, at);
     let high = u32_in(s, at + 4);
-    (low as u64) + 4294967296 * (high as u64)
+    (low as u64) + (1 << 32) * (high as u64)
 }
 
 pub fn u8_at(s: &[u8], at: usize) -> u8

@@ -99,10 +99,10 @@ pub fn rest(s: &[u8], at: Place) -> &[u8]
 pub fn needed_for(pos: usize, n: usize) -> usize
     ensures { λ r. ⌜ r ≡ neededFor pos n ⌝ }
 {
-    if n <= 18446744073709551615 - pos {
+    if n <= usize::MAX - pos {
         return pos + n;
     }
-    18446744073709551615
+    usize::MAX
 }
 
 // Whether n more bytes are there.

@@ -9,7 +9,8 @@ use Rattle.floats.specs.Operations.{zero-float, one-float, clamped, complement,
 use Rattle.floats.proofs.Clamping.{clamp-within}
 use Rattle.floats.proofs.Quotients.{word-small, quotient-number}
 use Rattle.floats.proofs.Ranges.{Within}
-use Rattle.algorithms.specs.Etx.{hundred-float, etxOf}
+use Rattle.refusals.specs.Ranges.{maxEtx}
+use Rattle.algorithms.specs.Etx.{etxOf}
 use Rattle.figures.specs.Delivery.{deliveryRatio}
 
 clamp-fits : (lo hi x : Float) → T (fits binary64 lo) → T (fits binary64 hi) → T (fits binary64 x) → T (fits binary64 (clamped lo hi x))
@@ -34,6 +35,6 @@ loss-fits x = sub-fits binary64 one-float x
 pub etx-fits : (x y : Float) → T (fits binary64 (etxOf x y))
 unfolding etxOf fits
 etx-fits x y =
-    cond-fits binary64 (le (mul binary64 x y) zero-float) hundred-float (clamped one-float hundred-float (div binary64 one-float (mul binary64 x y)))
+    cond-fits binary64 (le (mul binary64 x y) zero-float) maxEtx (clamped one-float maxEtx (div binary64 one-float (mul binary64 x y)))
     tt
-    (clamp-fits one-float hundred-float (div binary64 one-float (mul binary64 x y)) tt tt (div-fits binary64 one-float (mul binary64 x y)))
+    (clamp-fits one-float maxEtx (div binary64 one-float (mul binary64 x y)) tt tt (div-fits binary64 one-float (mul binary64 x y)))

@@ -23,12 +23,9 @@ thousand-float = fin false 125 (pos 3)
 abbrev pub weight : ℕ → Float
 weight k = fin false 1 (negsuc k)
 
--- The parts by which a short and a long trend move: document 01, Round trip, ratios and trends.
+-- The part by which goodput moves: metrics.rs.
 abbrev pub one-quarter : Float
 one-quarter = weight 1
-
-abbrev pub one-thirty-second : Float
-one-thirty-second = weight 4
 
 -- x is from lo to hi, and no NaN: document 01, Before any figure, question 11.
 abbrev pub inRange : Float → Float → Float → Bool

@@ -34,7 +34,7 @@ wide-enough t c n K e h k =
     plain : (t w c : ℕ) → c ≤ 2 ^ 32 → t * 256 + 1 ≤ w → t * 1 * 2 ^ 40 ≤ w * 2 ^ 32 - c
     plain t w c h k = omega arith
 
-module _ (f : Format) (digits : 48 ≤ prec f) (deep : 40 ≤ low f) (t c : ℕ) (above : 0 < c) (few : c ≤ 2 ^ 32) (top : t ≤ 65535 * c) where
+module _ (f : Format) (digits : 48 ≤ prec f) (deep : 40 ≤ low f) (t c : ℕ) (above : 0 < c) (few : c ≤ 2 ^ 32) (top : t ≤ maxLength * c) where
   -- the quotient total / count, rounded, in units of the format's smallest value
   quotient : ℕ
   quotient = grid f (t * 1) (c * 1)
@@ -63,28 +63,28 @@ module _ (f : Format) (digits : 48 ≤ prec f) (deep : 40 ≤ low f) (t c : ℕ)
   unit-above : 0 < 2 ^ low f * 1
   unit-above = mul-pos (pow-pos (low f)) (zero-lt-suc 0)
 
-  quotient-top : quotient * 2 ^ 0 ≤ 65535 * 2 ^ low f
+  quotient-top : quotient * 2 ^ 0 ≤ maxLength * 2 ^ low f
   unfolding quotient
   quotient-top =
-      le-trans (mul-le-mul-right (2 ^ 0) (dyadic-ge f 65535 0 (short 65535 (lit< tt)) no-places (t * 1) (c * 1) divisor-above (let i : t * 1 * 2 ^ 0 ≤ 65535 * (c * 1) = omega arith in i)))
-      (le-of-eq (dyadic-is f 65535 0 (short 65535 (lit< tt)) no-places))
+      le-trans (mul-le-mul-right (2 ^ 0) (dyadic-ge f maxLength 0 (short maxLength (lit< tt)) no-places (t * 1) (c * 1) divisor-above (let i : t * 1 * 2 ^ 0 ≤ maxLength * (c * 1) = omega arith in i)))
+      (le-of-eq (dyadic-is f maxLength 0 (short maxLength (lit< tt)) no-places))
 
   quotient-finite : quotient < overflow f
   unfolding quotient
   quotient-finite =
-      lt-of-le-of-lt (dyadic-ge f 65535 0 (short 65535 (lit< tt)) no-places (t * 1) (c * 1) divisor-above (let i : t * 1 * 2 ^ 0 ≤ 65535 * (c * 1) = omega arith in i))
-      (dyadic-held f 65535 0 (short 65535 (lit< tt)) no-places .under)
+      lt-of-le-of-lt (dyadic-ge f maxLength 0 (short maxLength (lit< tt)) no-places (t * 1) (c * 1) divisor-above (let i : t * 1 * 2 ^ 0 ≤ maxLength * (c * 1) = omega arith in i))
+      (dyadic-held f maxLength 0 (short maxLength (lit< tt)) no-places .under)
 
   scaled-finite : scaled < overflow f
   unfolding scaled
   scaled-finite =
       let Uv = 2 ^ low f in
-      let h : quotient * 2 ^ 0 ≤ 65535 * Uv = quotient-top in
-      lt-of-le-of-lt (dyadic-ge f 16776960 0 (short 16776960 (lit< tt)) no-places (quotient * 256) (2 ^ low f * 1) unit-above (let i : quotient * 256 * 2 ^ 0 ≤ 16776960 * (Uv * 1) = omega arith in i))
-      (dyadic-held f 16776960 0 (short 16776960 (lit< tt)) no-places .under)
+      let h : quotient * 2 ^ 0 ≤ maxLength * Uv = quotient-top in
+      lt-of-le-of-lt (dyadic-ge f (maxLength * 256) 0 (short (maxLength * 256) (lit< tt)) no-places (quotient * 256) (2 ^ low f * 1) unit-above (let i : quotient * 256 * 2 ^ 0 ≤ (maxLength * 256) * (Uv * 1) = omega arith in i))
+      (dyadic-held f (maxLength * 256) 0 (short (maxLength * 256) (lit< tt)) no-places .under)
 
   -- ---- the scaled quotient lies between the whole numbers that the exact one lies between
-  lower : (v : ℕ) → v ≤ 65535 → v * c ≤ t * 256 → v * 2 ^ low f ≤ scaled
+  lower : (v : ℕ) → v ≤ maxLength → v * c ≤ t * 256 → v * 2 ^ low f ≤ scaled
   unfolding scaled
   lower v b h =
       let s : v < 2 ^ prec f = short v (let i : v < 2 ^ 48 = omega arith in i) in
@@ -94,7 +94,7 @@ module _ (f : Format) (digits : 48 ≤ prec f) (deep : 40 ≤ low f) (t c : ℕ)
       let q : v * (2 ^ low f * 1) ≤ quotient * 256 * 2 ^ 0 = le-trans (le-of-eq (ap (λ (z : ℕ). v * z) (mul-one (2 ^ low f)) ∙ sym e)) (le-trans (mul-le-mul-right 256 y) (let i : quotient * 256 ≤ quotient * 256 * 2 ^ 0 = omega arith in i)) in
       le-trans (le-of-eq (sym (dyadic-is f v 0 s no-places))) (le-trans (le-of-eq (mul-one (dyadic f v 0 s no-places))) (dyadic-le f v 0 s no-places (quotient * 256) (2 ^ low f * 1) unit-above scaled-finite q))
 
-  upper : (n : ℕ) → n ≤ 65536 → t * 256 + 1 ≤ n * c → scaled < n * 2 ^ low f
+  upper : (n : ℕ) → n ≤ 2 ^ 16 → t * 256 + 1 ≤ n * c → scaled < n * 2 ^ low f
   unfolding scaled
   upper n b h =
       let A = n * 2 ^ 32 - 1 in
@@ -113,32 +113,32 @@ module _ (f : Format) (digits : 48 ≤ prec f) (deep : 40 ≤ low f) (t c : ℕ)
       pos-of zero c w h = absurd (let e : zero * c ≡ 0 = zero-mul c in let i : ⊥ = omega arith in i)
       pos-of (suc n) c w h = zero-lt-suc n
 
-  scaled-cut : min (scaled / 2 ^ low f) 65535 ≡ min (t * 256 / c) 65535
-  scaled-cut = go (leb 65535 (t * 256 / c)) (leb→le 65535 (t * 256 / c)) (nleb→lt 65535 (t * 256 / c))
+  scaled-cut : min (scaled / 2 ^ low f) maxLength ≡ min (t * 256 / c) maxLength
+  scaled-cut = go (leb maxLength (t * 256 / c)) (leb→le maxLength (t * 256 / c)) (nleb→lt maxLength (t * 256 / c))
     where
-      both-capped : (a b : ℕ) → 65535 ≤ a → 65535 ≤ b → min a 65535 ≡ min b 65535
+      both-capped : (a b : ℕ) → maxLength ≤ a → maxLength ≤ b → min a maxLength ≡ min b maxLength
       both-capped a b h k = omega arith
 
-      go : (b : Bool) → (T b → 65535 ≤ t * 256 / c) → (T (not b) → t * 256 / c < 65535) → min (scaled / 2 ^ low f) 65535 ≡ min (t * 256 / c) 65535
-      go true h k = both-capped (scaled / 2 ^ low f) (t * 256 / c) (le-div-iff-mul-le (pow-pos (low f)) .1 (lower 65535 (le-refl 65535) (le-div-iff-mul-le above .0 (h tt)))) (h tt)
+      go : (b : Bool) → (T b → maxLength ≤ t * 256 / c) → (T (not b) → t * 256 / c < maxLength) → min (scaled / 2 ^ low f) maxLength ≡ min (t * 256 / c) maxLength
+      go true h k = both-capped (scaled / 2 ^ low f) (t * 256 / c) (le-div-iff-mul-le (pow-pos (low f)) .1 (lower maxLength (le-refl maxLength) (le-div-iff-mul-le above .0 (h tt)))) (h tt)
       go false h k =
           let v = t * 256 / c in
           let l = lower v (le-of-lt (k tt)) (div-mul-le-self (t * 256) c) in
           let m : t * 256 + 1 ≤ suc v * c = div-lt-up (t * 256) c above in
           let u = upper (suc v) (up-one v (k tt)) m in
-          ap (λ (z : ℕ). min z 65535) (le-antisymm (below (scaled / 2 ^ low f) v (div-lt-iff-lt-mul (pow-pos (low f)) .1 u)) (le-div-iff-mul-le (pow-pos (low f)) .1 l))
+          ap (λ (z : ℕ). min z maxLength) (le-antisymm (below (scaled / 2 ^ low f) v (div-lt-iff-lt-mul (pow-pos (low f)) .1 u)) (le-div-iff-mul-le (pow-pos (low f)) .1 l))
         where
           div-lt-up : (n c : ℕ) → 0 < c → n + 1 ≤ suc (n / c) * c
           div-lt-up n c above = omega (arith, lt-div-mul-add {a = n} {b = c} above, suc-mul (n / c) c)
 
-          up-one : (v : ℕ) → v < 65535 → suc v ≤ 65536
+          up-one : (v : ℕ) → v < maxLength → suc v ≤ 2 ^ 16
           up-one v h = omega arith
 
           below : (a b : ℕ) → a < suc b → a ≤ b
           below a b h = omega arith
 
 -- (total as f64 / count as f64 * 256.0) as u16
-mean-at : (f : Format) (t c : ℕ) → 48 ≤ prec f → 40 ≤ low f → 0 < c → c ≤ 2 ^ 32 → t ≤ 65535 * c → t ≤ 2 ^ prec f → c ≤ 2 ^ prec f → floatRoute f t c ≡ min (t * 256 / c) 65535
+mean-at : (f : Format) (t c : ℕ) → 48 ≤ prec f → 40 ≤ low f → 0 < c → c ≤ 2 ^ 32 → t ≤ maxLength * c → t ≤ 2 ^ prec f → c ≤ 2 ^ prec f → floatRoute f t c ≡ min (t * 256 / c) maxLength
 unfolding floatRoute rounded-quotient scaled quotient ofInt
 mean-at f t c digits deep above few top total-held count-held =
     let unit = 2 ^ low f in

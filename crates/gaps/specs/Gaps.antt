@@ -1,6 +1,6 @@
 -- Gaps in the counters as bursts of lost frames: document 01, "Jitter, delay trend and bursts", and receiver.rs, `GapTracker`. Definitions only.
 use mathlib.Core.Bool.{Bool, true, false, cond, not, _&&_, _||_}
-use Prim.Native.Nat.{ℕ, _+_, _-_, _*_, _%_, min, max}
+use Prim.Native.Nat.{ℕ, _+_, _-_, _*_, _%_, _^_, min, max}
 use lib.Dec.{leb, eqb}
 use Rattle.refusals.specs.Ranges.{counterOk}
 use Rattle.refusals.specs.declared.option.OptionU64.{OptionU64}
@@ -8,13 +8,13 @@ use Rattle.refusals.specs.declared.option.OptionU64.the-variants.{None, Some}
 use Rattle.gaps.specs.declared.GapTracker.{GapTracker}
 use Rattle.gaps.specs.declared.Observed.{Observed}
 
--- 2^16 − 1, at which a burst's length saturates
+-- at which a burst's length saturates
 abbrev pub maxLength : ℕ
-maxLength = 65535
+maxLength = 2 ^ 16 - 1
 
--- 2^64 − 1, at which a counter that is due saturates
+-- at which a counter that is due saturates
 abbrev pub maxCounter : ℕ
-maxCounter = 18446744073709551615
+maxCounter = 2 ^ 64 - 1
 
 -- ---- the rule: document 01, State rule
 -- the finished bursts: the count, less one inside a burst
@@ -99,13 +99,13 @@ burstFinished t = cond (t .«in_burst») (burstRecorded t) t
 
 -- "takes a gap's low 16 bits"
 abbrev pub gapLength : ℕ → ℕ
-gapLength gap = gap % 65536
+gapLength gap = gap % 2 ^ 16
 
 -- "and adds within a burst saturating at 65,535"; outside one the gap begins one
 unfoldable pub gapCounted : GapTracker → ℕ → GapTracker
 gapCounted t gap =
     cond (t .«in_burst») (burst t (t .«in_burst») (min (t .«current_burst_len» + gapLength gap) maxLength) (t .«burst_count»))
-    (burst t true (gapLength gap) (min (t .«burst_count» + 1) 4294967295))
+    (burst t true (gapLength gap) (min (t .«burst_count» + 1) (2 ^ 32 - 1)))
 
 -- a gap is a burst or part of one; a frame in order, or a late one, ends it
 unfoldable pub gapObserved : GapTracker → ℕ → GapTracker

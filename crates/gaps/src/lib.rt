@@ -13,8 +13,8 @@ use numbers::methods::saturating_sub_u64;
 use refusals::option::OptionU64;
 use refusals::ranges::counter_u32_ok;
 
-// 2^16 − 1: the greatest length of a burst.
-pub const MAX_BURST_LEN: u64 = 65_535;
+// The greatest length of a burst.
+pub const MAX_BURST_LEN: u64 = u16::MAX as u64;
 
 // Each gap in the counter sequence is a burst of lost frames.
 pub struct GapTracker {
@@ -51,7 +51,7 @@ pub struct IntervalStats {
 fn gap_len(gap: u64) -> u16
     ensures { λ r. ⌜ r ≡ gapLength gap ⌝ }
 {
-    (gap % 65_536) as u16
+    (gap % (1 << 16)) as u16
 }
 
 // The counter that is due after this one, or the one that was due where the frame is late.
@@ -83,7 +83,7 @@ pub fn mean_burst(total: u64, count: u32) -> u16
         return 0;
     }
     if 256 * count as u64 <= total {
-        return 65_535;
+        return u16::MAX;
     }
     (256 * total / count as u64) as u16
 }

@@ -4,14 +4,14 @@ use mathlib.Core.Path.{_≡_, refl}
 use mathlib.Core.Logic.{_≢_}
 use mathlib.Core.Bool.{Bool, true, false, cond, not, _&&_, _||_}
 use mathlib.Core.List.{List, [], _∷_}
-use Prim.Native.Nat.{ℕ, _^_}
+use Prim.Native.Nat.{ℕ}
 use native.Mathlib.Omega.{arith}
 use lib.Dec.{eqb}
 use lib.IntN.{ℤ}
-use borrow.Author.Tests.{ltb-true, le-leb, eqb-true, eqb-false, not-false}
+use borrow.Author.Tests.{eqb-true, eqb-false, not-false}
 use Rattle.refusals.proofs.Clauses.{left, right}
 use Rattle.refusals.specs.Questions.{Question, firstNo}
-use Rattle.refusals.specs.Ranges.{maxClock, maxFrame, clockOk, frameSizeOk, smoothedOk, boundsOk}
+use Rattle.refusals.specs.Ranges.{clockOk, smoothedOk, boundsOk}
 use Rattle.history.specs.Asked as paper
 use Rattle.history.specs.Asked.{Served}
 
@@ -66,13 +66,6 @@ by-questions qs rule h = record { not-by-rule = not-one qs rule; served-if-yes =
 pub never-refused : {yes : Bool} → Lawful yes 0
 never-refused = record { not-by-rule = λ e. absurd (omega arith); served-if-yes = λ y. Served.answered }
 
--- ---- what document 01's own ranges say of the code's
-pub clock-yes : (ms : ℕ) → paper.clock ms ≡ true → clockOk ms ≡ true
-clock-yes ms h = let l = ltb-true ms (2 ^ 48) h in le-leb ms maxClock (omega arith)
-
-pub size-yes : (bytes : ℕ) → paper.frameSize bytes ≡ true → frameSizeOk bytes ≡ true
-size-yes bytes h = let l = ltb-true bytes (2 ^ 32) h in le-leb bytes maxFrame (omega arith)
-
 -- questions 1, 2, 8 and 9 of an interval by bounds
 pub record InBounds (us : ℤ) (lo hi : ℕ) : Type 0 where
   pub clocks : (clockOk lo && clockOk hi) ≡ true
@@ -85,7 +78,7 @@ bounds-yes us lo hi h =
     let l = left (c && paper.smoothed us) (boundsOk us lo hi) h in
     let both = left c (paper.smoothed us) l in
     record {
-      clocks = rw (clock-yes lo (left (paper.clock lo) (paper.clock hi) both), clock-yes hi (right (paper.clock lo) (paper.clock hi) both));
+      clocks = both;
       smoothed = right c (paper.smoothed us) l;
       order = right (c && paper.smoothed us) (boundsOk us lo hi) h;
     }

@@ -37,7 +37,7 @@ use Rattle.history.specs.ExactRoundTrip as exactTrips
 use Rattle.history.specs.Example.{Worked}
 
 pub worked : Worked
-unfolding writtenFrom reachedFrom acceptedFrom metricsStep processed.processOf processed.processRefusal processed.processed processed.counted processed.newerState processed.rttUpdated processed.sampled processed.trafficUpdated processed.countersSaved processed.jitterTrendUpdated processed.goodputUpdated processed.deliveryUpdated state.keepsRule state.trendsOk state.ratiosOk state.savedIn state.refusalOf updates.rekeyOf updates.rekeyed stales.stale stales.fell stales.same trips.roundTrip estimators.keepsRule estimators.estimateIn estimators.stepped numbers.estimateStep numbers.averageStep ewma.keepsRule ewma.stepped questions.firstNo exactTrips.keptAfter exactTrips.stale exactTrips.oneFell exactTrips.allEqual exactTrips.tripMs exactTrips.tripsMs ieee.le ieee.lt ieee.ofInt ieee.add ieee.sub ieee.mul ieee.div ieee.eq floats.step goodputs.goodputAfter goodputs.goodputOver goodputs.secondsOf receiverStep frames.frameOf frames.frameRefusal frames.counted frames.reordersAfter frames.markedAfter frames.pushes receivers.keepsRule receivers.rekeyOf receivers.rekeyed receivers.clockRefusal jitters.stepped jitters.refusalOf jitters.jitterUsOf owds.keepsRule owds.newOf owds.grown owds.window trends.trendOf gaps.keepsRule gaps.finishedBursts gaps.observed gaps.nextAfter gaps.burstFinished gaps.gapCounted gaps.gapObserved stats.statsOf stats.meanBurst words.modulo words.reduced transits.transit delays.younger delays.ageOf delays.sentMs delays.delayUs delays.delayOf delays.windowFor delays.pushed echoes.echoAfter built.builtOf built.reportRefusal built.built built.reportOf exact.beforeDeadline exact.graceBy exact.graceAfter exact.lastBy exact.lastAfter exact.overSpans exact.reduced exact.difference exact.differenceFrom exact.differencesBy exact.differences averages.jitterAverageStep reports.encoded reports.decoded reports.decodedBy reports.reportIn reading.lengthAnswer reading.valuesOf reading.byLength payloads.writtenInto bytes.leBytes bytes.leAt bytes.fieldAt frames.withSample frames.timingSampled frames.echoIfSampled
+unfolding writtenFrom reachedFrom acceptedFrom metricsStep processed.processOf processed.processRefusal processed.processed processed.counted processed.newerState processed.rttUpdated processed.sampled processed.trafficUpdated processed.countersSaved processed.jitterTrendUpdated processed.goodputUpdated processed.deliveryUpdated state.keepsRule state.trendsOk state.ratiosOk state.savedIn state.refusalOf updates.rekeyOf updates.rekeyed stales.stale stales.fell stales.same trips.roundTrip estimators.keepsRule estimators.estimateIn estimators.stepped numbers.estimateStep numbers.averageStep ewma.keepsRule ewma.stepped questions.firstNo exactTrips.keptAfter exactTrips.stale exactTrips.oneFell exactTrips.allEqual exactTrips.tripMs exactTrips.tripsMs ieee.le ieee.lt ieee.ofInt ieee.add ieee.sub ieee.mul ieee.div ieee.eq floats.step goodputs.goodputAfter goodputs.goodputOver goodputs.secondsOf receiverStep frames.frameOf frames.frameRefusal frames.counted frames.reordersAfter frames.markedAfter frames.withSample frames.pushes frames.timingSampled frames.echoIfSampled receivers.keepsRule receivers.rekeyOf receivers.rekeyed receivers.clockRefusal jitters.stepped jitters.refusalOf jitters.jitterUsOf owds.keepsRule owds.newOf owds.grown owds.window trends.trendOf gaps.keepsRule gaps.finishedBursts gaps.observed gaps.nextAfter gaps.burstFinished gaps.gapCounted gaps.gapObserved stats.statsOf stats.meanBurst words.modulo words.reduced transits.transit delays.younger delays.ageOf delays.sentMs delays.delayUs delays.delayOf delays.windowFor delays.pushed echoes.echoAfter built.builtOf built.reportRefusal built.built built.reportOf exact.beforeDeadline exact.graceBy exact.graceAfter exact.lastBy exact.lastAfter exact.overSpans exact.reduced exact.difference exact.differenceFrom exact.differencesBy exact.differences averages.jitterAverageStep reports.encoded reports.decoded reports.decodedBy reports.reportIn reading.lengthAnswer reading.valuesOf reading.byLength payloads.writtenInto bytes.leBytes bytes.leAt bytes.fieldAt
 worked =
     record {
       reports-accepted = refl;

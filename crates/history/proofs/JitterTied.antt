@@ -33,6 +33,7 @@ use Rattle.receiver.proofs.QuestionsAnswered.{kept, report-asked}
 use Rattle.wire.specs.declared.receiver_report.ReceiverReport.{ReceiverReport}
 use Rattle.history.specs.Answers.{Answer}
 use Rattle.history.specs.ReceiverCalls.{ReceiverNew, newReceiver, Frame, ReceiverCall, framing, receiverStep}
+use Rattle.history.specs.Paper.{grace}
 use Rattle.history.specs.ExactJitter as exact
 use Rattle.history.specs.NoCreep.{jitterAverage}
 use Rattle.history.proofs.DifferencesAgree.{graceIn, grace-agrees, difference-agrees}
@@ -76,13 +77,13 @@ started-tied window ms = record { jitter = refl; last = refl; grace = refl }
 
 pub new-tied : (k : ReceiverNew) → Tied (exactOf []) (newReceiver k)
 unfolding newOf exact.differences exact.lastAfter exact.graceAfter
-new-tied (ReceiverNew.new window) = started-tied window 200
-new-tied ReceiverNew.default = started-tied 32 200
+new-tied (ReceiverNew.new window) = started-tied window _
+new-tied ReceiverNew.default = started-tied _ _
 new-tied (ReceiverNew.«new_with_cold_start» window ms) = go (eqb (coldStartRefusal ms) 0)
   where
     go : (b : Bool) → Tied exactNew (cond b (startedAt window ms) fresh)
     go true = started-tied window ms
-    go false = started-tied 32 200
+    go false = started-tied _ _
 
 -- ---- a frame
 -- a difference more is a step more
@@ -147,7 +148,7 @@ report-tied y s times delays now h = go (eqb (reportRefusal s times delays now) 
 paced-tied : (y : Exact) (s : ReceiverState) (p : Paced) → Tied y s → Tied y (withPace s p .state)
 paced-tied y s p h = record { jitter = h .jitter; last = h .last; grace = h .grace }
 
-rekeyed-tied : (y : Exact) (s : ReceiverState) (now : ℕ) → Tied (exactBy (exact.rekeyed now) y) (rekeyed s (now + 15000))
+rekeyed-tied : (y : Exact) (s : ReceiverState) (now : ℕ) → Tied (exactBy (exact.rekeyed now) y) (rekeyed s (now + grace))
 unfolding rekeyed exact.differencesBy exact.lastBy exact.graceBy
 rekeyed-tied y s now = record { jitter = refl; last = refl; grace = refl }
 

@@ -24,7 +24,7 @@ use Rattle.metrics.specs.declared.MmpMetrics.{MmpMetrics}
 use Rattle.metrics.proofs.ReportsByCase.{process-refusal}
 use Rattle.history.specs.MetricsCalls.{MetricsQuestion, metricsTold, MetricsCall, metricsStep}
 use Rattle.history.specs.Asked as paper
-use Rattle.history.proofs.Asked.{Lawful, by-questions, never-refused, clock-yes}
+use Rattle.history.proofs.Asked.{Lawful, by-questions, never-refused}
 
 module _ (m : MmpMetrics) (rule : keepsRule m ≡ true) where
   asks-rule : {yes : Bool} → Lawful yes (refusalOf m)
@@ -50,7 +50,7 @@ module _ (m : MmpMetrics) (rule : keepsRule m ≡ true) where
 
   pub metrics-lawful : (c : MetricsCall) → Lawful (paper.metricsYes c) (metricsStep c m .refusal)
   unfolding metricsStep processRefusal rekeyOf reverseOf reportsSeenOf answerU64
-  metrics-lawful (MetricsCall.«process_receiver_report» rr ours now) = rw (process-refusal m rr ours now) (by-questions _ (rw rule) (λ h. rw (rule, clock-yes now h)))
+  metrics-lawful (MetricsCall.«process_receiver_report» rr ours now) = rw (process-refusal m rr ours now) (by-questions _ (rw rule) (λ h. rw (rule, h)))
   metrics-lawful MetricsCall.«reset_for_rekey» = asks-rule
   metrics-lawful (MetricsCall.«update_reverse_delivery» packets highest) = asks-rule
   metrics-lawful MetricsCall.«reports_seen» = asks-rule

@@ -17,6 +17,7 @@ use Rattle.history.specs.Run.{Entry, All, entry, notFull, callsLeft, asT
 use Rattle.history.specs.ExactRoundTrip as exact
 use Rattle.history.specs.Ends.{End, EndNew, EndCall, on-sender, on-receiver, on-metrics, endStep, Log, Side, Two, at, put, Call, ends}
 use Rattle.history.specs.Asked.{capacityOf, endYes}
+use Rattle.history.specs.Paper.{greatestEtx}
 use Rattle.history.specs.NoCreep.{begun, noneYet, written, reached, accepted, NotByRule, ServedIfYes, recorded, Between, FiguresHold, ReportHolds, endStale, unlessRefused, staleEntry, oneMore, noneStruck, entriesLeft, struckOut, restore, NoCreepHolds}
 use Rattle.history.proofs.Runs.{tied-run, all-run, strike-run}
 use Rattle.history.proofs.RefusedStays.{stays}
@@ -41,7 +42,7 @@ ratio-between : (x : Float) → ratioOk x ≡ true → Between 0 1 x
 unfolding ofInt
 ratio-between x h = between 0 1 x h
 
-etx-between : (x : Float) → etxOk x ≡ true → Between 1 100 x
+etx-between : (x : Float) → etxOk x ≡ true → Between 1 greatestEtx x
 unfolding ofInt
 etx-between x h = between 1 100 x h
 

@@ -3,16 +3,14 @@
 use mathlib.Core.Path.{_≡_, refl}
 use mathlib.Core.Bool.{Bool, true, false, cond, _&&_}
 use mathlib.Core.List.{List, [], _∷_, _++_}
-use Prim.Native.Nat.{ℕ, zero, suc, _^_}
-use native.Mathlib.Omega.{arith}
+use Prim.Native.Nat.{ℕ, zero, suc}
 use lib.Dec.{eqb}
 use lib.IntN.{ℤ}
 use lib.ListN.{length, take, drop}
-use borrow.Author.Tests.{ltb-false, lt-leb}
 use Rattle.refusals.proofs.Clauses.{left, right}
 use Rattle.refusals.specs.Answers.{answerU32, answerU64, answerOptionU64}
 use Rattle.refusals.specs.Questions.{question, firstNo}
-use Rattle.refusals.specs.Ranges.{maxClock, clockOk, delayOk}
+use Rattle.refusals.specs.Ranges.{clockOk, delayOk}
 use Rattle.algorithms.specs.Owd as owds
 use Rattle.algorithms.specs.Owd.{windowsOk, samplesOk, pairs, window}
 use Rattle.algorithms.specs.declared.owd.OwdTrendDetector.{OwdTrendDetector}
@@ -27,8 +25,9 @@ use Rattle.receiver.specs.declared.ReceiverState.{ReceiverState}
 use Rattle.receiver.proofs.RuleKept.{report-refusal}
 use Rattle.receiver.proofs.FrameAsked.{sample-in-range}
 use Rattle.history.specs.ReceiverCalls.{ReceiverNew, newReceiver, ReceiverQuestion, receiverTold, Frame, ReceiverCall, receiverStep}
+use Rattle.history.specs.Paper.{defaultWindow}
 use Rattle.history.specs.Asked as paper
-use Rattle.history.proofs.Asked.{Lawful, by-questions, never-refused, clock-yes, size-yes, bounds-yes}
+use Rattle.history.proofs.Asked.{Lawful, by-questions, never-refused, bounds-yes}
 
 -- ---- the capacity
 abbrev capacityIn : ReceiverState → ℕ
@@ -85,9 +84,9 @@ new-capacity (ReceiverNew.new window) = refl
 new-capacity ReceiverNew.default = refl
 new-capacity (ReceiverNew.«new_with_cold_start» window ms) = go (paper.clock ms) refl
   where
-    go : (b : Bool) → paper.clock ms ≡ b → capacityIn (cond (eqb (firstNo (question 2 (clockOk ms) ∷ [])) 0) (startedAt window ms) fresh) ≡ cond b (paper.clamped window) 32
-    go true e = rw (clock-yes ms e)
-    go false e = rw (lt-leb ms maxClock (let l = ltb-false ms (2 ^ 48) e in omega arith))
+    go : (b : Bool) → paper.clock ms ≡ b → capacityIn (cond (eqb (firstNo (question 2 (clockOk ms) ∷ [])) 0) (startedAt window ms) fresh) ≡ cond b (paper.clamped window) defaultWindow
+    go true e = rw (e)
+    go false e = rw e
 
 -- ---- a window all of whose samples are in range
 delays-take : (n : ℕ) (ds : List ℤ) → paper.delays ds ≡ true → paper.delays (take n ds) ≡ true
@@ -125,7 +124,7 @@ module _ (s : ReceiverState) (rule : keepsRule s ≡ true) (capacity : ℕ) (sam
 
   told-lawful : (q : ReceiverQuestion) → Lawful (paper.receiverAsked q) (receiverTold q s .refusal)
   unfolding receiverTold shouldSendOf clockRefusal answerU32 answerU64 answerOptionU64
-  told-lawful (ReceiverQuestion.«should_send_report» now) = by-questions _ (rw rule) (λ h. rw (rule, clock-yes now h))
+  told-lawful (ReceiverQuestion.«should_send_report» now) = by-questions _ (rw rule) (λ h. rw (rule, h))
   told-lawful ReceiverQuestion.«keeps_rule» = never-refused
   told-lawful ReceiverQuestion.«cumulative_packets_recv» = asks-rule
   told-lawful ReceiverQuestion.«cumulative_bytes_recv» = asks-rule
@@ -146,20 +145,20 @@ module _ (s : ReceiverState) (rule : keepsRule s ≡ true) (capacity : ℕ) (sam
       let c = paper.clock (f .now) in
       let l = left (c && paper.frameSize (f .bytes)) (paper.windows capacity (f .times) (f .delays)) h in
       let w = right (c && paper.frameSize (f .bytes)) (paper.windows capacity (f .times) (f .delays)) h in
-      rw (rule, clock-yes (f .now) (left c (paper.frameSize (f .bytes)) l), size-yes (f .bytes) (right c (paper.frameSize (f .bytes)) l), windows-yes (f .times) (f .delays) w, sample-in-range s (f .timestamp) (f .now) sampled))
+      rw (rule, left c (paper.frameSize (f .bytes)) l, right c (paper.frameSize (f .bytes)) l, windows-yes (f .times) (f .delays) w, sample-in-range s (f .timestamp) (f .now) sampled))
 
   pub receiver-lawful : (c : ReceiverCall) → Lawful (paper.receiverYes capacity c) (receiverStep c s .refusal)
   unfolding receiverStep frameOf reportRefusal rekeyOf clockRefusal fromSrttOf fromSrtt fromSrttRefusal withBoundsOf withBounds withBoundsRefusal pace.updated
   receiver-lawful (ReceiverCall.«record_frame» f sampled) = frame-lawful f sampled
   receiver-lawful (ReceiverCall.«record_recv» f) = frame-lawful f true
-  receiver-lawful (ReceiverCall.«reset_for_rekey» now) = by-questions _ (rw rule) (λ h. rw (rule, clock-yes now h))
+  receiver-lawful (ReceiverCall.«reset_for_rekey» now) = by-questions _ (rw rule) (λ h. rw (rule, h))
   receiver-lawful (ReceiverCall.«build_report» times ds now) =
       rw (report-refusal s times ds now)
       (by-questions _ (rw rule)
       (λ h.
       let l = left (paper.clock now && paper.windows capacity times ds) (paper.delays ds) h in
       let d = right (paper.clock now && paper.windows capacity times ds) (paper.delays ds) h in
-      rw (rule, clock-yes now (left (paper.clock now) (paper.windows capacity times ds) l), windows-yes times ds (right (paper.clock now) (paper.windows capacity times ds) l), samples-yes (s .«owd_trend») times ds d)))
+      rw (rule, left (paper.clock now) (paper.windows capacity times ds) l, windows-yes times ds (right (paper.clock now) (paper.windows capacity times ds) l), samples-yes (s .«owd_trend») times ds d)))
   receiver-lawful (ReceiverCall.«update_report_interval_from_srtt» srtt) = by-questions _ (rw rule) (λ h. rw (rule, h))
   receiver-lawful (ReceiverCall.«update_report_interval_with_bounds» srtt lo hi) = by-questions _ (rw rule) (λ h. let b = bounds-yes srtt lo hi h in rw (rule, b .clocks, b .smoothed, b .order))
   receiver-lawful (ReceiverCall.ask q) = told-lawful q

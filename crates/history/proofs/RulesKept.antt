@@ -44,7 +44,7 @@ pub record Receiving (s : ReceiverState) : Type 0 where
 
 pub new-receiver : (k : ReceiverNew) → Receiving (newReceiver k)
 unfolding receivers.newOf pace.coldStartRefusal firstNo
-new-receiver (ReceiverNew.new window) = record { rule = receiver.new-keeps-rule window 200; burst = omega arith }
+new-receiver (ReceiverNew.new window) = record { rule = receiver.with-window-keeps-rule window; burst = omega arith }
 new-receiver ReceiverNew.default = record { rule = receiver.fresh-keeps-rule; burst = omega arith }
 new-receiver (ReceiverNew.«new_with_cold_start» window ms) = record { rule = receiver.new-keeps-rule window ms; burst = bursts.new-fits window ms }
 

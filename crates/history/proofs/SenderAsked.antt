@@ -13,7 +13,7 @@ use Rattle.sender.specs.declared.SenderState.{SenderState}
 use Rattle.sender.proofs.RuleKept.{report-refusal}
 use Rattle.history.specs.SenderCalls.{SenderQuestion, senderTold, SenderCall, senderStep}
 use Rattle.history.specs.Asked as paper
-use Rattle.history.proofs.Asked.{Lawful, by-questions, never-refused, clock-yes, size-yes, bounds-yes}
+use Rattle.history.proofs.Asked.{Lawful, by-questions, never-refused, bounds-yes}
 
 module _ (s : SenderState) (rule : keepsRule s ≡ true) where
   asks-rule : {yes : Bool} → Lawful yes (refusalOf s)
@@ -22,7 +22,7 @@ module _ (s : SenderState) (rule : keepsRule s ≡ true) where
 
   told-lawful : (q : SenderQuestion) → Lawful (paper.senderAsked q) (senderTold q s .refusal)
   unfolding senderTold shouldSendOf reportRefusal answerU32 answerU64 answerF64
-  told-lawful (SenderQuestion.«should_send_report» now) = by-questions _ (rw rule) (λ h. rw (rule, clock-yes now h))
+  told-lawful (SenderQuestion.«should_send_report» now) = by-questions _ (rw rule) (λ h. rw (rule, h))
   told-lawful SenderQuestion.«send_failure_backoff_multiplier» = asks-rule
   told-lawful SenderQuestion.«keeps_rule» = never-refused
   told-lawful SenderQuestion.«cumulative_packets_sent» = asks-rule
@@ -32,8 +32,8 @@ module _ (s : SenderState) (rule : keepsRule s ≡ true) where
 
   pub sender-lawful : (c : SenderCall) → Lawful (paper.senderYes c) (senderStep c s .refusal)
   unfolding senderStep sentOf sentRefusal reportRefusal failureOf failureRefusal successOf fromSrttOf fromSrtt fromSrttRefusal withBoundsOf withBounds withBoundsRefusal pace.updated
-  sender-lawful (SenderCall.«record_sent» counter timestamp bytes) = by-questions _ (rw rule) (λ h. rw (rule, size-yes bytes h))
-  sender-lawful (SenderCall.«build_report» now) = rw (report-refusal s now) (by-questions _ (rw rule) (λ h. rw (rule, clock-yes now h)))
+  sender-lawful (SenderCall.«record_sent» counter timestamp bytes) = by-questions _ (rw rule) (λ h. rw (rule, h))
+  sender-lawful (SenderCall.«build_report» now) = rw (report-refusal s now) (by-questions _ (rw rule) (λ h. rw (rule, h)))
   sender-lawful SenderCall.«record_send_failure» = by-questions _ (rw rule) (λ h. rw rule)
   sender-lawful SenderCall.«record_send_success» = asks-rule
   sender-lawful (SenderCall.«update_report_interval_from_srtt» srtt) = by-questions _ (rw rule) (λ h. rw (rule, h))

@@ -2,11 +2,12 @@
 -- answers them all yes is served, unless a counter is full. Definitions only.
 use mathlib.Core.Bool.{Bool, true, cond, _&&_, _||_}
 use mathlib.Core.List.{List, [], _∷_}
-use Prim.Native.Nat.{ℕ, _^_, min, max}
-use lib.Dec.{leb, ltb, eqb}
+use Prim.Native.Nat.{ℕ, min, max}
+use lib.Dec.{leb, eqb}
 use lib.IntN.{ℤ, pos, negℤ}
 use lib.ListN.{length}
 use lib.Signed.{leZ}
+use Rattle.history.specs.Paper.{greatestClock, greatestFrame, greatestDelay, leastWindow, greatestWindow, defaultWindow}
 use Rattle.history.specs.SenderCalls.{SenderQuestion, SenderCall}
 use Rattle.history.specs.ReceiverCalls.{ReceiverNew, ReceiverQuestion, Frame, ReceiverCall}
 use Rattle.history.specs.MetricsCalls.{MetricsCall}
@@ -19,20 +20,20 @@ pub data Served : ℕ → Type 0 where
 
 -- 2. "every clock reading, interval and interval bound at most 2^48 − 1 ms"
 abbrev pub clock : ℕ → Bool
-clock ms = ltb ms (2 ^ 48)
+clock ms = leb ms greatestClock
 
 -- 3. "the frame size at most 2^32 − 1 bytes"
 abbrev pub frameSize : ℕ → Bool
-frameSize bytes = ltb bytes (2 ^ 32)
+frameSize bytes = leb bytes greatestFrame
 
 -- 5. "within ±2^42 µs", of every sample of a lent window, live or not
 unfoldable pub delays : List ℤ → Bool
 delays [] = true
-delays (d ∷ ds) = leZ (negℤ (pos (2 ^ 42))) d && leZ d (pos (2 ^ 42)) && delays ds
+delays (d ∷ ds) = leZ (negℤ (pos greatestDelay)) d && leZ d (pos greatestDelay) && delays ds
 
 -- 8. "a smoothed value for scheduling at most 2^42 µs"; 9. "the lower interval bound at most the upper", which a value of 0 or less skips
 abbrev pub smoothed : ℤ → Bool
-smoothed us = leZ us (pos (2 ^ 42))
+smoothed us = leZ us (pos greatestDelay)
 
 abbrev pub inBounds : ℤ → ℕ → ℕ → Bool
 inBounds us lo hi = clock lo && clock hi && smoothed us && (leZ us (pos 0) || leb lo hi)
@@ -56,14 +57,14 @@ senderYes (SenderCall.«update_report_interval_from_srtt» srtt) = smoothed srtt
 senderYes (SenderCall.«update_report_interval_with_bounds» srtt lo hi) = inBounds srtt lo hi
 senderYes (SenderCall.ask q) = senderAsked q
 
--- ---- receiver, by the capacity of its window: what its constructor asked for, "2 to 4096"; 32 by default, also where a constructor is refused
+-- ---- receiver, by the capacity of its window: what its constructor asked for, in bounds; the default one, also where a constructor is refused
 abbrev pub clamped : ℕ → ℕ
-clamped window = max 2 (min window 4096)
+clamped window = max leastWindow (min window greatestWindow)
 
 abbrev pub capacityOf : ReceiverNew → ℕ
 capacityOf (ReceiverNew.new window) = clamped window
-capacityOf ReceiverNew.default = 32
-capacityOf (ReceiverNew.«new_with_cold_start» window ms) = cond (clock ms) (clamped window) 32
+capacityOf ReceiverNew.default = defaultWindow
+capacityOf (ReceiverNew.«new_with_cold_start» window ms) = cond (clock ms) (clamped window) defaultWindow
 
 -- 4. "both window buffers exactly as long as the state's capacity"
 abbrev pub windows : ℕ → List ℕ → List ℤ → Bool

@@ -5,6 +5,7 @@ use mathlib.Core.List.{List, [], _∷_, _++_}
 use Prim.Native.Nat.{ℕ, _+_, _-_, _%_, _^_}
 use lib.Dec.{ltb}
 use lib.IntN.{ℤ, pos, negsuc, _+ℤ_, _-ℤ_, _*ℤ_}
+use Rattle.history.specs.Paper.{grace}
 use Rattle.history.specs.ReceiverCalls.{ReceiverCall}
 
 -- ---- what a call is to the jitter
@@ -35,7 +36,7 @@ beforeDeadline (until deadline) now = ltb now deadline
 
 unfoldable pub graceBy : Event → Grace → Grace
 graceBy (sampled timestamp now) g = cond (beforeDeadline g now) g no-grace
-graceBy (rekeyed now) g = until (now + 15000)
+graceBy (rekeyed now) g = until (now + grace)
 graceBy no-event g = g
 
 unfoldable pub graceAfter : List ReceiverCall → Grace

@@ -1,3 +1,4 @@
+pub mod Paper
 pub mod Run
 pub mod Answers
 pub mod Tellings

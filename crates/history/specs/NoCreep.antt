@@ -8,7 +8,7 @@ use Prim.Native.Nat.{ℕ, zero, suc, _+_, _^_}
 use lib.IntN.{ℤ, pos, negsuc, natAbs}
 use lib.Ieee.{Float, binary64, le, ofInt}
 use lib.ListN.{drop}
-use Rattle.numbers.specs.Bounds.{Within, smoothedBound, variationBound, jitterBound}
+use Rattle.numbers.specs.Bounds.{Within}
 use Rattle.numbers.specs.Jitter.{JitterAverage, jitterAverageOf}
 use Rattle.numbers.specs.RoundTrip.{Estimate, no-estimate, estimate, averageOf, SmoothedAbove, VariationWithin}
 use Rattle.wire.specs.ReceiverReport.{encodeAnswer, encodedInto, decoded}
@@ -18,6 +18,7 @@ use Rattle.sender.specs.State as senders
 use Rattle.receiver.specs.State as receivers
 use Rattle.metrics.specs.State as metrics
 use Rattle.metrics.specs.declared.MmpMetrics.{MmpMetrics}
+use Rattle.history.specs.Paper.{greatestEtx, smoothedBound, variationBound, jitterBound}
 use Rattle.history.specs.Run as run
 use Rattle.history.specs.Run.{Entry, Left, All, runOf, notFull, callsLeft, asTheyWere, restored}
 use Rattle.history.specs.Answers.{Fact, Answer}
@@ -88,7 +89,7 @@ pub record FiguresHold (l : List MetricsCall) (m : MmpMetrics) : Type 0 where
   -- "delivery ratios are in 0 to 1 and ETX in 1 to 100"
   pub forward : Between 0 1 (m .«delivery_ratio_forward»)
   pub reverse : Between 0 1 (m .«delivery_ratio_reverse»)
-  pub etx : Between 1 100 (m .etx)
+  pub etx : Between 1 greatestEtx (m .etx)
   -- reports seen are the reports processed, refused ones left out
   pub seen : m .«reports_seen» ≡ exact.processed l
 

@@ -3,7 +3,7 @@ use mathlib.Core.Bool.{Bool, true}
 use mathlib.Core.List.{List}
 use Prim.Native.Nat.{ℕ}
 use lib.IntN.{ℤ}
-use Rattle.receiver.specs.State.{keepsRule, startedAt, fresh, newOf, rekeyOf, packetsOf, bytesOf, highestOf, jitterOf, intervalOf, lastRecvOf, ecnOf}
+use Rattle.receiver.specs.State.{keepsRule, withWindow, fresh, newOf, rekeyOf, packetsOf, bytesOf, highestOf, jitterOf, intervalOf, lastRecvOf, ecnOf}
 use Rattle.receiver.specs.Frames.{frameOf, frameTimes, frameDelays}
 use Rattle.receiver.specs.Reports.{builtOf}
 use Rattle.receiver.specs.Pacing.{fromSrttOf, withBoundsOf, shouldSendOf}
@@ -20,7 +20,7 @@ pub data ReceiverNew : Type 0 where
   «new_with_cold_start» : ℕ → ℕ → ReceiverNew
 
 abbrev pub newReceiver : ReceiverNew → ReceiverState
-newReceiver (new window) = startedAt window 200
+newReceiver (new window) = withWindow window
 newReceiver default = fresh
 newReceiver («new_with_cold_start» window ms) = newOf window ms .state
 

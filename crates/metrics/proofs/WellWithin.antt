@@ -2,7 +2,7 @@
 use mathlib.Core.Path.{_≡_, refl, sym, _∙_}
 use mathlib.Core.Bool.{Bool, true, not, _&&_}
 use mathlib.Core.List.{List, [], _∷_, foldl}
-use Prim.Native.Nat.{ℕ, _+_, _^_}
+use Prim.Native.Nat.{ℕ, _+_, _-_, _^_}
 use native.Mathlib.Omega.{arith}
 use lib.Dec.{T, ltb, leb}
 use lib.IntN.{ℤ, pos, negsuc}
@@ -171,17 +171,16 @@ module _ (m : MmpMetrics) where
       )
 
 -- ---- the numbers
--- 2^42
 abbrev far : ℕ
-far = 4398046511104
+far = 2 ^ 42
 
 near : (ms : ℕ) → ltb ms far ≡ true → clockOk ms ≡ true
 near ms h = let l = ltb-true ms far h in le-leb ms maxClock (omega (arith, l))
 
-pub trip-near : (us : ℤ) → (leZ (pos 0) us && leZ us (pos 4398046511103)) ≡ true → roundTripOk us ≡ true
+pub trip-near : (us : ℤ) → (leZ (pos 0) us && leZ us (pos (2 ^ 42 - 1))) ≡ true → roundTripOk us ≡ true
 trip-near (pos n) h =
-    let m = leb-true n 4398046511103 (right (leb 0 n) (leb n 4398046511103) h) in
-    rw (left (leb 0 n) (leb n 4398046511103) h, le-leb n (2 ^ 42) (omega (arith, m))) refl
+    let m = leb-true n (2 ^ 42 - 1) (right (leb 0 n) (leb n (2 ^ 42 - 1)) h) in
+    rw (left (leb 0 n) (leb n (2 ^ 42 - 1)) h, le-leb n (2 ^ 42) (omega (arith, m))) refl
 trip-near (negsuc n) h = h
 
 abbrev pub Numbers : MmpMetrics → ℕ → Type 0

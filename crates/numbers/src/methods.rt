@@ -14,27 +14,19 @@ pub fn saturating_sub_u64(a: u64, b: u64) -> u64
 pub fn saturating_add_u16(a: u16, b: u16) -> u16
     ensures { λ r. ⌜ r ≡ min (a + b) (2 ^ 16 - 1) ⌝ }
 {
-    if a <= 65_535 - b { a + b } else { 65_535 }
+    if a <= u16::MAX - b { a + b } else { u16::MAX }
 }
 
 pub fn saturating_add_u32(a: u32, b: u32) -> u32
     ensures { λ r. ⌜ r ≡ min (a + b) (2 ^ 32 - 1) ⌝ }
 {
-    if a <= 4_294_967_295 - b {
-        a + b
-    } else {
-        4_294_967_295
-    }
+    if a <= u32::MAX - b { a + b } else { u32::MAX }
 }
 
 pub fn saturating_add_u64(a: u64, b: u64) -> u64
     ensures { λ r. ⌜ r ≡ min (a + b) (2 ^ 64 - 1) ⌝ }
 {
-    if a <= 18_446_744_073_709_551_615 - b {
-        a + b
-    } else {
-        18_446_744_073_709_551_615
-    }
+    if a <= u64::MAX - b { a + b } else { u64::MAX }
 }
 
 // Rust's `a.max(b)`.
@@ -54,9 +46,9 @@ pub fn max_u64(a: u64, b: u64) -> u64
 pub fn saturating_u64_to_u32(n: u64) -> u32
     ensures { λ r. ⌜ r ≡ min n (2 ^ 32 - 1) ⌝ }
 {
-    if n <= 4_294_967_295 {
+    if n <= u32::MAX as u64 {
         n as u32
     } else {
-        4_294_967_295
+        u32::MAX
     }
 }

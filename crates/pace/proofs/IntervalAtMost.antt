@@ -8,7 +8,8 @@ use lib.IntN.{ℤ}
 use borrow.Author.Tests.{ltb-false, le-leb, leb-true, eqb-true}
 use Rattle.numbers.specs.Signs.{asUnsigned}
 use Rattle.refusals.specs.Ranges.{maxClock, clockOk}
-use Rattle.pace.specs.Intervals.{clamped, floorAt, top, updateCounted, nextInterval}
+use Rattle.limits.specs.Limits.{defaultColdStartInterval, minReportInterval, maxReportInterval, coldStartSamples}
+use Rattle.pace.specs.Intervals.{clamped, floorAt, updateCounted, nextInterval}
 use Rattle.pace.specs.Updates.{updated, fromSrttRefusal, fromSrtt, withBoundsRefusal, withBounds}
 use Rattle.pace.proofs.QuestionsAnswered.{with-bounds-asked}
 
@@ -22,11 +23,11 @@ next-at-most interval us lo hi most hs hl hh = go (eqb us 0) (ltb (us / 1000) lo
     go false false true f = hh
     go false false false f = let l = f refl in omega arith
 
-floor-at-most : (updates : ℕ) → floorAt updates ≤ 1000
+floor-at-most : (updates : ℕ) → floorAt updates ≤ minReportInterval
 unfolding floorAt
-floor-at-most updates = go (leb updates 5)
+floor-at-most updates = go (leb updates coldStartSamples)
   where
-    go : (b : Bool) → cond b 200 1000 ≤ 1000
+    go : (b : Bool) → cond b defaultColdStartInterval minReportInterval ≤ minReportInterval
     go true = omega arith
     go false = omega arith
 
@@ -42,7 +43,7 @@ module _ (ok : Bool) (multiple interval count : ℕ) (srtt : ℤ) (h : clockOk i
 
   pub from-srtt-in-range : clockOk (fromSrtt ok multiple interval count srtt .«report_interval_ms») ≡ true
   unfolding fromSrtt
-  from-srtt-in-range = updated-in-range (fromSrttRefusal ok srtt) (floorAt (updateCounted count)) top (updateCounted count) (λ e. (omega (arith, floor-at-most (updateCounted count)), omega arith))
+  from-srtt-in-range = updated-in-range (fromSrttRefusal ok srtt) (floorAt (updateCounted count)) maxReportInterval (updateCounted count) (λ e. (omega (arith, floor-at-most (updateCounted count)), omega arith))
 
   pub with-bounds-in-range : (lo hi : ℕ) → clockOk (withBounds ok multiple interval count srtt lo hi .«report_interval_ms») ≡ true
   unfolding withBounds

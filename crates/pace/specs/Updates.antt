@@ -7,7 +7,8 @@ use lib.IntN.{ℤ}
 use Rattle.numbers.specs.Signs.{asUnsigned}
 use Rattle.refusals.specs.Questions.{question, firstNo}
 use Rattle.refusals.specs.Ranges.{clockOk, smoothedOk, boundsOk}
-use Rattle.pace.specs.Intervals.{floorAt, top, updateCounted, nextInterval}
+use Rattle.limits.specs.Limits.{maxReportInterval}
+use Rattle.pace.specs.Intervals.{floorAt, updateCounted, nextInterval}
 use Rattle.pace.specs.declared.Paced.{Paced}
 
 -- document 01, the checks of a cold-start interval: question 2 alone
@@ -27,9 +28,9 @@ updated n multiple interval count srtt lo hi updates =
 unfoldable pub fromSrttRefusal : Bool → ℤ → ℕ
 fromSrttRefusal ok srtt = firstNo (question 1 ok ∷ question 8 (smoothedOk srtt) ∷ [])
 
--- between floor and top: the update is counted, and the floor goes by the count
+-- between the floor and "top 5,000": the update is counted, and the floor goes by the count
 unfoldable pub fromSrtt : Bool → ℕ → ℕ → ℕ → ℤ → Paced
-fromSrtt ok multiple interval count srtt = updated (fromSrttRefusal ok srtt) multiple interval count srtt (floorAt (updateCounted count)) top (updateCounted count)
+fromSrtt ok multiple interval count srtt = updated (fromSrttRefusal ok srtt) multiple interval count srtt (floorAt (updateCounted count)) maxReportInterval (updateCounted count)
 
 -- document 01, the checks: questions 1, 2 of both bounds, 8 and 9
 unfoldable pub withBoundsRefusal : Bool → ℤ → ℕ → ℕ → ℕ

@@ -24,7 +24,7 @@ use Rattle.gaps.proofs.RuleKept as trackers
 use Rattle.samples.specs.Delay.{referenceOk}
 use Rattle.samples.specs.declared.delay.OwdReference.{OwdReference}
 use Rattle.samples.proofs.SampleKeepsRule as samples
-use Rattle.receiver.specs.State.{grace, graceOk, keepsRule, startedAt, fresh, newOf, rekeyed, rekeyOf}
+use Rattle.receiver.specs.State.{grace, graceOk, keepsRule, startedAt, withWindow, fresh, newOf, rekeyed, rekeyOf}
 use Rattle.receiver.specs.Frames.{reordersAfter, counted, withTiming, timingSampled, echoIfSampled, pushes, withSample, frameOf}
 use Rattle.receiver.specs.Reports.{someBuilt, noneBuilt, built, reportRefusal, builtOf}
 use Rattle.receiver.specs.Pacing.{withPace, fromSrttOf, withBoundsOf}
@@ -40,8 +40,11 @@ started-keeps-rule window ms h =
     keeps (startedAt window ms)
     (record { last-recv = refl; last-report = refl; interval = h; deadline = refl; jitter = refl; window = windows.new-keeps-rule window; reference = refl; tracker = trackers.fresh-keeps-rule; reorders = refl })
 
+pub with-window-keeps-rule : (window : ℕ) → keepsRule (withWindow window) ≡ true
+with-window-keeps-rule window = started-keeps-rule window _ refl
+
 pub fresh-keeps-rule : keepsRule fresh ≡ true
-fresh-keeps-rule = started-keeps-rule 32 200 refl
+fresh-keeps-rule = with-window-keeps-rule _
 
 -- refused or not: a refused constructor gives the default
 pub new-keeps-rule : (window ms : ℕ) → keepsRule (newOf window ms .state) ≡ true

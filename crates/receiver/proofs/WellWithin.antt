@@ -2,10 +2,11 @@
 use mathlib.Core.Path.{_≡_, refl, sym, _∙_}
 use mathlib.Core.Bool.{true, false, not, _&&_}
 use mathlib.Core.List.{[], _∷_}
-use Prim.Native.Nat.{ℕ, _+_, _*_, _^_}
+use Prim.Native.Nat.{ℕ, _+_, _-_, _*_, _^_}
 use native.Mathlib.Omega.{arith}
 use lib.Dec.{ltb, leb, eqb}
 use borrow.Author.Tests.{ltb-true, leb-true, eqb-true, not-true, lt-ltb, le-leb, eq-eqb}
+use Rattle.limits.specs.Limits.{minOwdWindowSize, maxOwdWindowSize}
 use Rattle.refusals.specs.Questions.{question, firstNo}
 use Rattle.refusals.specs.Ranges.{maxClock, maxFrame, clockOk, optionalClockOk, frameSizeOk, counterOk}
 use Rattle.refusals.specs.declared.option.OptionU64.{OptionU64}
@@ -27,9 +28,9 @@ use Rattle.receiver.specs.declared.ReceiverState.{ReceiverState}
 use Rattle.receiver.proofs.QuestionsAnswered.{keeps}
 
 -- ---- the clocks
--- 2^42 ms: a clock below it is near
+-- a clock below it is near
 abbrev nearClock : ℕ
-nearClock = 4398046511104
+nearClock = 2 ^ 42
 
 near : (ms : ℕ) → ltb ms nearClock ≡ true → clockOk ms ≡ true
 near ms h = let l = ltb-true ms nearClock h in le-leb ms maxClock (omega (arith, l))
@@ -75,20 +76,20 @@ clocks-near s now recv report deadline reference r h =
 
 -- ---- the window and its buffers
 pub window-lent : (w : OwdTrendDetector) (times delays : ℕ)
-    → (eqb (w .capacity) times && eqb times delays && leb 2 times && leb times 4096 && leb (w .count) times && ltb (w .first) times) ≡ true
+    → (eqb (w .capacity) times && eqb times delays && leb minOwdWindowSize times && leb times maxOwdWindowSize && leb (w .count) times && ltb (w .first) times) ≡ true
     → (owds.keepsRule w ≡ true) × (windowsOk w times delays ≡ true)
 window-lent w times delays h =
     let same = eqb (w .capacity) times in
     let alike = eqb times delays in
-    let f = both (same && alike && leb 2 times && leb times 4096 && leb (w .count) times) (ltb (w .first) times) h in
-    let c = both (same && alike && leb 2 times && leb times 4096) (leb (w .count) times) (f .0) in
-    let m = both (same && alike && leb 2 times) (leb times 4096) (c .0) in
-    let l = both (same && alike) (leb 2 times) (m .0) in
+    let f = both (same && alike && leb minOwdWindowSize times && leb times maxOwdWindowSize && leb (w .count) times) (ltb (w .first) times) h in
+    let c = both (same && alike && leb minOwdWindowSize times && leb times maxOwdWindowSize) (leb (w .count) times) (f .0) in
+    let m = both (same && alike && leb minOwdWindowSize times) (leb times maxOwdWindowSize) (c .0) in
+    let l = both (same && alike) (leb minOwdWindowSize times) (m .0) in
     let e = both same alike (l .0) in
     let t = eqb-true (w .capacity) times (e .0) in
     let d = eqb-true times delays (e .1) in
-    let least = leb-true 2 times (l .1) in
-    let most = leb-true times 4096 (m .1) in
+    let least = leb-true minOwdWindowSize times (l .1) in
+    let most = leb-true times maxOwdWindowSize (m .1) in
     let count = leb-true (w .count) times (c .1) in
     let first = ltb-true (w .first) times (f .1) in (
       owd-kept.keeps w (record { least = omega (arith, t, least); most = omega (arith, t, most); count = omega (arith, t, count); first = omega (arith, t, first) }),
@@ -96,7 +97,7 @@ window-lent w times delays h =
     )
 
 -- ---- the counts
-outside-burst : (t : GapTracker) → t .«in_burst» ≡ false → eqb (t .«current_burst_len») 0 ≡ true → leb (t .«total_burst_len») (65535 * t .«burst_count») ≡ true → gaps.keepsRule t ≡ true
+outside-burst : (t : GapTracker) → t .«in_burst» ≡ false → eqb (t .«current_burst_len») 0 ≡ true → leb (t .«total_burst_len») (gaps.maxLength * t .«burst_count») ≡ true → gaps.keepsRule t ≡ true
 unfolding gaps.keepsRule finishedBursts
 outside-burst t out len total = rw (out, len, total) refl
 
@@ -109,12 +110,12 @@ Counts s bytes =
     × (counterOk 64 (s .«cumulative_bytes_recv») bytes ≡ true)
     × (counterOk 32 (s .«gap_tracker» .«burst_count») 1 ≡ true)
 
--- 2^63: a count below it is low
+-- a count below it is low
 abbrev lowCount : ℕ
-lowCount = 9223372036854775808
+lowCount = 2 ^ 63
 
 pub counts-low : (s : ReceiverState) (bytes : ℕ) → let t = s .«gap_tracker» in
-    (not (t .«in_burst») && eqb (t .«current_burst_len») 0 && leb (t .«total_burst_len») (65535 * t .«burst_count») && ltb (t .«burst_count») 4294967295
+    (not (t .«in_burst») && eqb (t .«current_burst_len») 0 && leb (t .«total_burst_len») (gaps.maxLength * t .«burst_count») && ltb (t .«burst_count») (2 ^ 32 - 1)
     && leb (s .«cumulative_reorder_count») (s .«cumulative_packets_recv») && ltb (s .«cumulative_packets_recv») lowCount && ltb (s .«cumulative_bytes_recv») lowCount && frameSizeOk bytes)
     ≡ true
     → Counts s bytes
@@ -122,8 +123,8 @@ counts-low s bytes h =
     let t = s .«gap_tracker» in
     let out = not (t .«in_burst») in
     let len = eqb (t .«current_burst_len») 0 in
-    let total = leb (t .«total_burst_len») (65535 * t .«burst_count») in
-    let some = ltb (t .«burst_count») 4294967295 in
+    let total = leb (t .«total_burst_len») (gaps.maxLength * t .«burst_count») in
+    let some = ltb (t .«burst_count») (2 ^ 32 - 1) in
     let late = reordersOk s in
     let packets = ltb (s .«cumulative_packets_recv») lowCount in
     let sizes = ltb (s .«cumulative_bytes_recv») lowCount in
@@ -137,7 +138,7 @@ counts-low s bytes h =
     let size = leb-true bytes maxFrame (z .1) in
     let carried = ltb-true (s .«cumulative_bytes_recv») lowCount (y .1) in
     let came = ltb-true (s .«cumulative_packets_recv») lowCount (p .1) in
-    let bursts = ltb-true (t .«burst_count») 4294967295 (b .1) in (
+    let bursts = ltb-true (t .«burst_count») (2 ^ 32 - 1) (b .1) in (
       outside-burst t (not-true (t .«in_burst») (l .0)) (l .1) (g .1),
       r .1,
       z .1,

@@ -3,6 +3,7 @@ use mathlib.Core.Bool.{Bool, true, false, cond, _&&_}
 use mathlib.Core.List.{[], _∷_}
 use Prim.Native.Nat.{ℕ, _+_}
 use lib.Dec.{eqb, leb}
+use Rattle.limits.specs.Limits.{defaultColdStartInterval, defaultOwdWindowSize}
 use Rattle.refusals.specs.Answers.{answerU32, answerU64, answerOptionU64}
 use Rattle.refusals.specs.Questions.{question, firstNo}
 use Rattle.refusals.specs.Ranges.{maxClock, clockOk, optionalClockOk}
@@ -72,9 +73,13 @@ startedAt window ms =
       «srtt_sample_count» = 0;
     }
 
--- the default: limits.rs, a window of 32 and a cold-start interval of 200 ms
+-- a window of the caller's, and the cold-start interval of limits.rs
+abbrev pub withWindow : ℕ → ReceiverState
+withWindow window = startedAt window defaultColdStartInterval
+
+-- the default: the window of limits.rs too
 abbrev pub fresh : ReceiverState
-fresh = startedAt 32 200
+fresh = withWindow defaultOwdWindowSize
 
 -- a cold-start interval of the caller's; "A refused constructor, given no state, returns the default one"
 unfoldable pub newOf : ℕ → ℕ → ReceiverNew

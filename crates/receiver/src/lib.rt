@@ -6,7 +6,7 @@ pub mod pacing; // pacing.rt: the report interval, and when a report is due
 
 ghost use mathlib.Core.Path.{_≡_};
 ghost use Rattle.refusals.specs.Answers.{answerU64};
-ghost use Rattle.receiver.specs.State.{graceOk, keepsRule, refusalOf, startedAt, fresh, newOf, rekeyed, rekeyOf, packetsOf, bytesOf, highestOf, jitterOf, intervalOf, lastRecvOf, ecnOf};
+ghost use Rattle.receiver.specs.State.{graceOk, keepsRule, refusalOf, startedAt, withWindow, fresh, newOf, rekeyed, rekeyOf, packetsOf, bytesOf, highestOf, jitterOf, intervalOf, lastRecvOf, ecnOf};
 use algorithms::jitter::JitterEstimator;
 use algorithms::owd::OwdTrendDetector;
 use gaps::GapTracker;
@@ -16,6 +16,7 @@ use refusals::answer::AnswerU32;
 use refusals::answer::AnswerU64;
 use refusals::option::OptionU64;
 use refusals::questions::Questions;
+use refusals::ranges::MAX_CLOCK_MS;
 use refusals::ranges::clock_ok;
 use refusals::ranges::optional_clock_ok;
 use samples::delay::OwdReference;
@@ -24,8 +25,8 @@ use samples::delay::reference_ok;
 // Grace after a rekey before jitter and delay are sampled again: frames of the old session may still come for 10 s, and 5 s margin.
 pub const REKEY_JITTER_GRACE_MS: u64 = 15_000;
 
-// 2^48 − 1 and the grace: the greatest deadline.
-const MAX_GRACE_MS: u64 = 281_474_976_725_655;
+// The greatest deadline of a grace.
+const MAX_GRACE_MS: u64 = MAX_CLOCK_MS + REKEY_JITTER_GRACE_MS;
 
 // What an end keeps of the frames that come from one peer.
 pub struct ReceiverState {
@@ -122,7 +123,7 @@ impl ReceiverState {
     }
 
     pub fn new(owd_window_size: usize) -> ReceiverState
-        ensures { λ r. ⌜ r ≡ startedAt «owd_window_size» 200 ⌝ }
+        ensures { λ r. ⌜ r ≡ withWindow «owd_window_size» ⌝ }
     {
         ReceiverState::started(owd_window_size, limits::DEFAULT_COLD_START_INTERVAL_MS)
     }

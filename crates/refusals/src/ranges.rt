@@ -5,14 +5,14 @@ ghost use Rattle.refusals.specs.Ranges.{clockOk, optionalClockOk, frameS
 use crate::option::OptionU64;
 use floats::in_range;
 
-// 2^48 − 1: the greatest clock reading, interval and interval bound, in ms.
-pub const MAX_CLOCK_MS: u64 = 281_474_976_710_655;
+// The greatest clock reading, interval and interval bound, in ms.
+pub const MAX_CLOCK_MS: u64 = (1 << 48) - 1;
 
-// 2^32 − 1: the greatest frame size.
-pub const MAX_FRAME_BYTES: usize = 4_294_967_295;
+// The greatest frame size.
+pub const MAX_FRAME_BYTES: usize = u32::MAX as usize;
 
-// 2^42: the greatest delay sample, round trip and smoothed round trip, in µs. A delay may be as far below 0.
-pub const MAX_DELAY_US: i64 = 4_398_046_511_104;
+// The greatest delay sample, round trip and smoothed round trip, in µs. A delay may be as far below 0.
+pub const MAX_DELAY_US: i64 = 1 << 42;
 
 // The greatest ETX.
 pub const MAX_ETX: f64 = 100.0;
@@ -79,14 +79,14 @@ pub fn bounds_ok(srtt_us: i64, min_ms: u64, max_ms: u64) -> bool
 pub fn counter_u32_ok(count: u32, more: u32) -> bool
     ensures { λ r. ⌜ r ≡ counterOk 32 count more ⌝ }
 {
-    count <= 4_294_967_295 - more
+    count <= u32::MAX - more
 }
 
 // Question 10: a counter of 64 bits that gains `more`.
 pub fn counter_u64_ok(count: u64, more: u64) -> bool
     ensures { λ r. ⌜ r ≡ counterOk 64 count more ⌝ }
 {
-    count <= 18_446_744_073_709_551_615 - more
+    count <= u64::MAX - more
 }
 
 // Question 11: a ratio.

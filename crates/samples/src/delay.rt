@@ -16,8 +16,8 @@ use numbers::signs::signed;
 use refusals::questions::Questions;
 use refusals::ranges::clock_ok;
 
-// 2^30 ms, after which the one-way delay reference restarts: sender time changes sign at 2^31, so this leaves a wide margin.
-pub const OWD_REF_SPAN_MS: u64 = 1_073_741_824;
+// The age at which the one-way delay reference restarts: sender time changes sign at 2^31, so this leaves a wide margin.
+pub const OWD_REF_SPAN_MS: u64 = 1 << 30;
 
 // The receive time and the sender's timestamp of the frame that every delay is measured from.
 pub enum OwdReference {
@@ -104,7 +104,7 @@ fn difference(a: u64, b: u64) -> i64
     ensures { λ r. ⌜ r ≡ subℕ a b ⌝ }
 {
     if a < b {
-        signed(18_446_744_073_709_551_615 - (b - a - 1))
+        signed(u64::MAX - (b - a - 1))
     } else {
         signed(a - b)
     }
@@ -122,7 +122,7 @@ fn delay_us(age_ms: u64, word: u64) -> i64
     requires { ⌜ («age_ms» < 2 ^ 30) × (word < 2 ^ 32) ⌝ }
     ensures { λ r. ⌜ r ≡ delayUs «age_ms» (toZ w32 word) ⌝ }
 {
-    if word < 2_147_483_648 {
+    if word < 1 << 31 {
         difference(1000 * age_ms, 1000 * word)
     } else {
         signed(1000 * (age_ms + (TIMESTAMP_SPAN - word)))

@@ -5,6 +5,9 @@ ghost use Rattle.samples.specs.Echo.{echoAfter, echoOf};
 use numbers::methods::saturating_sub_u64;
 use refusals::option::OptionU64;
 
+// The longest dwell that fits on the wire.
+const MAX_DWELL_MS: u64 = u16::MAX as u64;
+
 // What a report says of the last sampled frame: its timestamp, and how long ago it came.
 pub struct Echo {
     pub timestamp_echo: u32,
@@ -15,7 +18,7 @@ pub struct Echo {
 fn echo_after(timestamp: u32, dwell_ms: u64) -> Echo
     ensures { λ r. ⌜ r ≡ echoAfter timestamp «dwell_ms» ⌝ }
 {
-    if dwell_ms <= 65_535 {
+    if dwell_ms <= MAX_DWELL_MS {
         Echo {
             timestamp_echo: timestamp,
             dwell_time: dwell_ms as u16,
@@ -23,7 +26,7 @@ fn echo_after(timestamp: u32, dwell_ms: u64) -> Echo
     } else {
         Echo {
             timestamp_echo: 0,
-            dwell_time: 65_535,
+            dwell_time: u16::MAX,
         }
     }
 }

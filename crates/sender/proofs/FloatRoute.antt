@@ -9,24 +9,24 @@ use lib.Pow.{pow-mono}
 use lib.Ieee.{binary64, mul, ofInt, toUnsigned}
 use Rattle.floats.proofs.PowersOfTwo.{power-exact, product-cast}
 use Rattle.sender.specs.State.{keepsRule}
-use Rattle.sender.specs.Backoff.{backoff, multiplier}
+use Rattle.sender.specs.Backoff.{maxDoublings, backoff, multiplier}
 use Rattle.sender.specs.Pacing.{effectiveMs}
 use Rattle.sender.specs.declared.SenderState.{SenderState}
 use Rattle.sender.proofs.QuestionsAnswered.{interval-at-most}
 
 pub multiplier-exact : (failures : ℕ) → ofInt binary64 (pos (backoff failures)) ≡ multiplier failures
 unfolding backoff multiplier
-multiplier-exact failures = power-exact binary64 (min failures 5) (omega arith)
+multiplier-exact failures = power-exact binary64 (min failures maxDoublings) (omega arith)
 
-pub backoff-at-most : (failures : ℕ) → 2 ^ min failures 5 ≤ 32
-backoff-at-most failures = let l : min failures 5 ≤ 5 = omega arith in pow-mono l
+pub backoff-at-most : (failures : ℕ) → 2 ^ min failures maxDoublings ≤ 2 ^ maxDoublings
+backoff-at-most failures = let l : min failures maxDoublings ≤ maxDoublings = omega arith in pow-mono l
 
 pub float-route : (s : SenderState) → keepsRule s ≡ true
     → toUnsigned 64 (mul binary64 (ofInt binary64 (pos (s .«report_interval_ms»))) (multiplier (s .«consecutive_send_failures»))) ≡ effectiveMs s
 unfolding backoff multiplier
 float-route s h =
     let n = s .«report_interval_ms» in
-    let k = min (s .«consecutive_send_failures») 5 in
+    let k = min (s .«consecutive_send_failures») maxDoublings in
     let l = interval-at-most s h in
     let p = mul-le-mul l (backoff-at-most (s .«consecutive_send_failures»)) in
     product-cast binary64 64 n k (omega arith) (omega arith) (omega arith)

@@ -14,13 +14,17 @@ use Rattle.sender.specs.declared.SenderState.{SenderState}
 use Rattle.sender.specs.declared.backoff.SendFailure.{SendFailure}
 use Rattle.sender.specs.declared.backoff.SendSuccess.{SendSuccess}
 
--- "Send failures multiply the sender's by 2, 4, 8, 16, 32, then 32": 2 to the failures, at most 2^5
+-- "then 32": failures beyond these lengthen the interval no more
+abbrev pub maxDoublings : ℕ
+maxDoublings = 5
+
+-- "Send failures multiply the sender's by 2, 4, 8, 16, 32, then 32": 2 to the failures
 unfoldable pub backoff : ℕ → ℕ
-backoff failures = 2 ^ min failures 5
+backoff failures = 2 ^ min failures maxDoublings
 
 -- the same as a float, exactly: 1.0, 2.0, .. 32.0
 unfoldable pub multiplier : ℕ → Float
-multiplier failures = float 1 (min failures 5)
+multiplier failures = float 1 (min failures maxDoublings)
 
 -- the multiplier, and 0.0 on a refusal
 abbrev pub multiplierOf : SenderState → AnswerF64

@@ -3,6 +3,7 @@ use mathlib.Core.Bool.{Bool, false, cond, not, _&&_, _||_}
 use mathlib.Core.List.{[], _∷_}
 use Prim.Native.Nat.{ℕ}
 use lib.Dec.{eqb}
+use Rattle.limits.specs.Limits.{defaultColdStartInterval}
 use Rattle.refusals.specs.Answers.{answerU32, answerU64}
 use Rattle.refusals.specs.Questions.{question, firstNo}
 use Rattle.refusals.specs.Ranges.{clockOk}
@@ -40,9 +41,9 @@ startedAt ms =
       «srtt_sample_count» = 0;
     }
 
--- the default: limits.rs, a cold-start interval of 200 ms
+-- the default: the cold-start interval of limits.rs
 abbrev pub fresh : SenderState
-fresh = startedAt 200
+fresh = startedAt defaultColdStartInterval
 
 -- a cold-start interval of the caller's; "A refused constructor, given no state, returns the default one"
 unfoldable pub newOf : ℕ → SenderNew

@@ -21,11 +21,20 @@ pub struct SendSuccess {
     pub state: SenderState,
 }
 
+// Failures in a row beyond these lengthen the interval no more.
+const MAX_DOUBLINGS: u32 = 5;
+
+const MAX_BACKOFF: u64 = 1 << MAX_DOUBLINGS;
+
 // How many times longer the interval is after so many failures in a row: 2^failures, at most 32.
 pub fn backoff_of(failures: u32) -> u64
     ensures { λ r. ⌜ r ≡ backoff failures ⌝ }
 {
-    if failures < 5 { 1 << failures } else { 32 }
+    if failures < MAX_DOUBLINGS {
+        1 << failures
+    } else {
+        MAX_BACKOFF
+    }
 }
 
 // The same as a float, exactly.

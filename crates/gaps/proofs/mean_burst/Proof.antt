@@ -1,22 +1,23 @@
 -- `gaps::mean_burst` meets its contract.
 use mathlib.Core.Path.{_≡_, refl}
-use Prim.Native.Nat.{ℕ, _*_, _/_, _≤_, _<_, min}
+use Prim.Native.Nat.{ℕ, _*_, _/_, _^_, _≤_, _<_, min}
 use native.Mathlib.Nat.{le-div-iff-mul-le, div-lt-iff-lt-mul}
 use native.Mathlib.Omega.{arith}
 use borrow.Author.Needs.{needs}
 use borrow.Author.Tests.{eq-eqb, ne-eqb}
 use Rattle.refusals.proofs.PickedByTest.{yes, no}
+use Rattle.gaps.specs.Gaps.{maxLength}
 use Rattle.gaps.specs.Stats.{meanBurst}
 use Rattle.gaps.proofs.mean_burst.Statement.{statement}
 use Rattle.gaps.proofs.mean_burst.Tie as tie
 
-below : (t c : ℕ) → t < 256 * c → 256 * t / c < 65536
+below : (t c : ℕ) → t < 256 * c → 256 * t / c < 2 ^ 16
 below t c h = div-lt-iff-lt-mul (let p : 0 < c = omega arith in p) .1 (omega arith)
 
-past : (t c : ℕ) → (c ≡ 0 → ⊥) → 256 * c ≤ t → 65535 ≡ min (256 * t / c) 65535
+past : (t c : ℕ) → (c ≡ 0 → ⊥) → 256 * c ≤ t → maxLength ≡ min (256 * t / c) maxLength
 past t c n h =
     let p : 0 < c = omega arith in
-    let l : 65535 ≤ 256 * t / c = le-div-iff-mul-le p .1 (omega arith) in omega arith
+    let l : maxLength ≤ 256 * t / c = le-div-iff-mul-le p .1 (omega arith) in omega arith
 
 none : tie.Need-returns
 unfolding meanBurst

@@ -13,14 +13,15 @@ use crate::MmpMetrics;
 use figures::tallies_ok;
 use floats::least;
 use refusals::option::unwrap_or_zero;
+use refusals::ranges::MAX_DELAY_US;
 use refusals::ranges::MAX_ETX;
 use refusals::ranges::MAX_TREND;
 
-// 2^42: reports, or 139 years in ms. No count or clock that runs has come so far.
-const FAR_CLOCK_OR_COUNT: u64 = 4_398_046_511_104;
+// So many reports, or 139 years in ms. No count or clock that runs has come so far.
+const FAR_CLOCK_OR_COUNT: u64 = 1 << 42;
 
-// 2^42 − 1 µs, 51 days: one below the bound of a round trip.
-const FAR_ROUND_TRIP_US: i64 = 4_398_046_511_103;
+// 51 days: one below the bound of a round trip.
+const FAR_ROUND_TRIP_US: i64 = MAX_DELAY_US - 1;
 
 // A round trip below its bound.
 fn near_us(us: i64) -> bool

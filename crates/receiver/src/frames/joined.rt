@@ -18,11 +18,11 @@ use refusals::option::unwrap_or_zero;
 use refusals::ranges::frame_size_ok;
 use samples::delay::OwdReference;
 
-// 2^42 ms, 139 years: a clock below it is near. No clock that runs has come so far.
-const NEAR_CLOCK_MS: u64 = 4_398_046_511_104;
+// 139 years: a clock below it is near. No clock that runs has come so far.
+const NEAR_CLOCK_MS: u64 = 1 << 42;
 
-// 2^63, half of what a counter holds: a count below it is low.
-const LOW_COUNT: u64 = 9_223_372_036_854_775_808;
+// Half of what a counter holds: a count below it is low.
+const LOW_COUNT: u64 = 1 << 63;
 
 // The clock of a reference that may be missing, in range where the reference is.
 fn reference_ms(owd_ref: OwdReference) -> u64
@@ -85,7 +85,7 @@ impl ReceiverState {
         !self.gap_tracker.in_burst
             & (self.gap_tracker.current_burst_len == 0)
             & (self.gap_tracker.total_burst_len <= most)
-            & (self.gap_tracker.burst_count < 4_294_967_295)
+            & (self.gap_tracker.burst_count < u32::MAX)
             & (self.cumulative_reorder_count <= self.cumulative_packets_recv)
             & (self.cumulative_packets_recv < LOW_COUNT)
             & (self.cumulative_bytes_recv < LOW_COUNT)

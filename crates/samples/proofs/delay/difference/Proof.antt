@@ -12,9 +12,9 @@ use borrow.Author.Tests.{lt-ltb, le-ltb}
 use Rattle.samples.proofs.delay.difference.Statement.{statement}
 use Rattle.samples.proofs.delay.difference.Tie as tie
 
-below : (a b : ℕ) → a < b → b < 2 ^ 63 → toZ w64 (18446744073709551615 - (b - a - 1)) ≡ negsuc (b - suc a)
+below : (a b : ℕ) → a < b → b < 2 ^ 63 → toZ w64 (2 ^ 64 - 1 - (b - a - 1)) ≡ negsuc (b - suc a)
 below a b h f =
-    let e : 18446744073709551615 - (b - a - 1) ≡ 2 ^ 64 - suc (b - suc a) = omega arith in
+    let e : 2 ^ 64 - 1 - (b - a - 1) ≡ 2 ^ 64 - suc (b - suc a) = omega arith in
     ap (toZ w64) e ∙ toZ-neg w64 (b - suc a) (omega arith)
 
 less : tie.Need-returns

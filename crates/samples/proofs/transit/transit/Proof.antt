@@ -17,13 +17,13 @@ use Rattle.samples.proofs.transit.transit.Tie as tie
 
 -- whole spans dropped from the receive step, and 1000 added
 word : (step timestamp last : ℕ) → timestamp < 2 ^ 32
-    → 1000 * (step % 4294967296 + last + (4294967296 - timestamp)) % 4294967296 ≡ modulo (pos 1000 *ℤ (pos step -ℤ (pos timestamp -ℤ pos last)))
+    → 1000 * (step % 2 ^ 32 + last + (2 ^ 32 - timestamp)) % 2 ^ 32 ≡ modulo (pos 1000 *ℤ (pos step -ℤ (pos timestamp -ℤ pos last)))
 word step timestamp last h =
-    let n = 1000 * (step % 4294967296 + last + (4294967296 - timestamp)) in
-    let k = 1000 * (step / 4294967296) in
-    let e : n + 4294967296 * k ≡ 1000 * (step + last) + (4294967296 * 1000 - 1000 * timestamp) = omega arith in
-    sym (add-mul-mod-self-left n 4294967296 k)
-    ∙ ap (λ (x : ℕ). x % 4294967296) e
+    let n = 1000 * (step % 2 ^ 32 + last + (2 ^ 32 - timestamp)) in
+    let k = 1000 * (step / 2 ^ 32) in
+    let e : n + 2 ^ 32 * k ≡ 1000 * (step + last) + (2 ^ 32 * 1000 - 1000 * timestamp) = omega arith in
+    sym (add-mul-mod-self-left n (2 ^ 32) k)
+    ∙ ap (λ (x : ℕ). x % 2 ^ 32) e
     ∙ sym (modulo-difference (1000 * (step + last)) (1000 * timestamp) 1000 (omega arith))
     ∙ ap modulo (sym (steps step timestamp last))
 

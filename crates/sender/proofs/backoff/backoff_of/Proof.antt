@@ -5,15 +5,15 @@ use borrow.Author.Needs.{needs}
 use native.Mathlib.Nat.{one-mul}
 use native.Mathlib.Omega.{arith}
 use lib.Pow.{shl-exact}
-use Rattle.sender.specs.Backoff.{backoff}
+use Rattle.sender.specs.Backoff.{maxDoublings, backoff}
 use Rattle.sender.proofs.backoff.backoff_of.Statement.{statement}
 use Rattle.sender.proofs.backoff.backoff_of.Tie as tie
 
-shifted : (n : ℕ) → n < 5 → 1 * 2 ^ n % 2 ^ 64 ≡ 2 ^ min n 5
-shifted n h = let e : min n 5 ≡ n = omega arith in rw e (shl-exact 1 n 64 (omega arith) (omega arith) ∙ one-mul (2 ^ n))
+shifted : (n : ℕ) → n < maxDoublings → 1 * 2 ^ n % 2 ^ 64 ≡ 2 ^ min n maxDoublings
+shifted n h = let e : min n maxDoublings ≡ n = omega arith in rw e (shl-exact 1 n 64 (omega arith) (omega arith) ∙ one-mul (2 ^ n))
 
-capped : (n : ℕ) → 5 ≤ n → 32 ≡ 2 ^ min n 5
-capped n h = let e : min n 5 ≡ 5 = omega arith in rw e
+capped : (n : ℕ) → maxDoublings ≤ n → 2 ^ maxDoublings ≡ 2 ^ min n maxDoublings
+capped n h = let e : min n maxDoublings ≡ maxDoublings = omega arith in rw e
 
 few : tie.Need-returns
 unfolding backoff

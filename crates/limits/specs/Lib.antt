@@ -1,0 +1,2 @@
+-- The constants that definitions cite.
+pub mod Limits
