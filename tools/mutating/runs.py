@@ -24,7 +24,7 @@ def once(tree, text, cases):
     open(f"{tree}/crates/{NAME}/src/main.rt", "w").write(text)
     open(f"{tree}/crates/{NAME}/stdin", "wb").write(b"".join(cases))
     try:
-        said = subprocess.run(["rt", "try", NAME], cwd=tree, capture_output=True, text=True, timeout=60, errors="replace")
+        said = subprocess.run(["rt", "try", NAME], cwd=tree, capture_output=True, text=True, timeout=240, errors="replace")
     except subprocess.TimeoutExpired:
         return "stuck", []
     out = said.stdout + said.stderr
