@@ -61,7 +61,7 @@ pub fn bits64(z: i64) -> u64 {
     if 0 <= z {
         return unsigned(z);
     }
-    18446744073709551615 - unsigned(!z)
+    u64::MAX - unsigned(!z)
 }
 
 pub fn flag(b: bool) -> u64 {

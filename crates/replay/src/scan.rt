@@ -45,7 +45,7 @@ fn digit(s: Scan, d: u64) -> Scan {
         return malformed(s);
     }
     let tens = 10 * value;
-    if d > 18446744073709551615 - tens {
+    if d > u64::MAX - tens {
         return malformed(s);
     }
     let mut more = s;

@@ -110,8 +110,8 @@ fn after(given: &[u64], at: usize, kind: u64) -> usize {
         6 => after_reference(given, at),
         7 => after_optional_u32(given, at),
         0xb => after_table(given, at, 1024, 255),
-        0xc => after_table(given, at, 4100, 4294967295),
-        0xd => after_table(given, at, 4100, 18446744073709551615),
+        0xc => after_table(given, at, 4100, u32::MAX as u64),
+        0xd => after_table(given, at, 4100, u64::MAX),
         _ => after_number(given, at, kind),
     }
 }

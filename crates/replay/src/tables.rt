@@ -84,7 +84,7 @@ pub fn pattern64(z: i64) -> u64 {
     if 0 <= z {
         return unsigned(z);
     }
-    18446744073709551615 - unsigned(!z)
+    u64::MAX - unsigned(!z)
 }
 
 // The float of a 64-bit pattern. Every NaN's pattern, above that of infinity but for the sign, gives a NaN.
