@@ -1,9 +1,9 @@
 // A receiver report processed, in the Rust's order: reports seen, stale test, RTT, delivery, goodput, jitter trend, saved counters.
 
-pub mod rtt; // reports/rtt.rt: RTT from timestamp echo
-pub mod traffic; // reports/traffic.rt: delivery, goodput, jitter trend, saved counters
-pub mod stale; // reports/stale.rt: the stale test
-pub mod joined; // reports/joined.rt: joined tests, for speed alone
+mod rtt; // reports/rtt.rt: RTT from timestamp echo
+mod traffic; // reports/traffic.rt: delivery, goodput, jitter trend, saved counters
+mod stale; // reports/stale.rt: the stale test
+mod joined; // reports/joined.rt: joined tests, for speed alone
 
 ghost use mathlib.Core.Path.{_≡_};
 ghost use Rattle.metrics.specs.Reports.{Room, newerReport, processed, refused, processRefusal, processOf};

@@ -18,16 +18,16 @@ use refusals::ranges::MAX_ETX;
 use refusals::ranges::MAX_TREND;
 
 // So many reports, or 139 years in ms. No count or clock that runs has come so far.
-const FAR_CLOCK_OR_COUNT: u64 = 1 << 42;
+const NEAR_CLOCK_OR_COUNT: u64 = 1 << 42;
 
 // 51 days: one below the bound of a round trip.
-const FAR_ROUND_TRIP_US: i64 = MAX_DELAY_US - 1;
+const NEAR_ROUND_TRIP_US: i64 = MAX_DELAY_US - 1;
 
 // A round trip below its bound.
 fn near_us(us: i64) -> bool
     ensures { λ r. ⌜ (r ≡ true → roundTripOk us ≡ true) ⌝ }
 {
-    (0 <= us) & (us <= FAR_ROUND_TRIP_US)
+    (0 <= us) & (us <= NEAR_ROUND_TRIP_US)
 }
 
 fn sum_of(a: f64, b: f64, c: f64, d: f64, e: f64) -> f64
@@ -113,9 +113,9 @@ impl MmpMetrics {
             self.rtt_zero,
             self.rtt_arith_fail,
         );
-        (prev < FAR_CLOCK_OR_COUNT)
-            & (now_ms < FAR_CLOCK_OR_COUNT)
-            & (self.reports_seen < FAR_CLOCK_OR_COUNT)
+        (prev < NEAR_CLOCK_OR_COUNT)
+            & (now_ms < NEAR_CLOCK_OR_COUNT)
+            & (self.reports_seen < NEAR_CLOCK_OR_COUNT)
             & smoothed
             & variation
             & tallies
