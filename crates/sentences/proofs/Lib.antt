@@ -1,0 +1,6 @@
+-- The sentences hold of the definitions that the contracts cite.
+pub mod ReportBytesHold
+pub mod BurstsHold
+pub mod DelayReferenceHolds
+pub mod ReportsDueHold
+pub mod TrendsHold

@@ -1,0 +1,4 @@
+-- Sentences of document 01, said apart from the definitions that the code is held against: no file here imports one of those.
+pub mod ReportBytes
+pub mod Bursts
+pub mod ReportsDue
