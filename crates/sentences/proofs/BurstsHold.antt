@@ -126,16 +126,16 @@ one-frame counter counters wide rest highest underway missing finished most sum 
         (behind _ finished most sum len (lengths false 0 gs) (rest (max highest counter) false 0 (finished + 1) (max most len) (sum + len) (λ e. refl) (omega arith) (omega arith)))
     go false n zero r = rw (next, n refl) (rest (max highest counter) false 0 finished most sum (λ e. refl) small r)
     go true n (suc gap) r =
-        let len : min (min missing 65535 + suc gap % 65536) 65535 ≡ min (missing + suc gap % 65536) 65535 = omega arith in
+        let len : gaps.gapCounted (tracker (due highest) true missing finished most sum) (suc gap) .«current_burst_len» ≡ min (missing + counted (suc gap)) 65535 = omega arith in
         rw (ne-eqb (suc gap) 0 (λ e. absurd (omega arith)), next, len)
         (rest (max highest counter) true (missing + counted (suc gap)) finished most sum (λ e. absurd (true≢false e)) small r)
     go false n (suc gap) r =
         let m = n refl in
         let o = one-more (missing + counted (suc gap)) gs in
-        let len : min (missing + suc gap % 65536) 65535 ≡ suc gap % 65536 = omega arith in
+        let len : gaps.gapCounted (tracker (due highest) false missing finished most sum) (suc gap) .«current_burst_len» ≡ min (missing + counted (suc gap)) 65535 = omega arith in
         let one : min (finished + 1) (2 ^ 32 - 1) ≡ finished + 1 = omega arith in
-        rw (ne-eqb (suc gap) 0 (λ e. absurd (omega arith)), next, one)
-        (rw len at (rest (max highest counter) true (missing + counted (suc gap)) finished most sum (λ e. absurd (true≢false e)) small r))
+        rw (ne-eqb (suc gap) 0 (λ e. absurd (omega arith)), next, one, len)
+        (rest (max highest counter) true (missing + counted (suc gap)) finished most sum (λ e. absurd (true≢false e)) small r)
 
 told : (counters : List ℕ) → Counters counters → Tells counters
 unfolding gapsAfter lengths

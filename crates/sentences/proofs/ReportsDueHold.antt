@@ -7,6 +7,7 @@ use lib.Dec.{leb, ltb, eqb}
 use lib.IntN.{ℤ, pos}
 use lib.ListN.{getD}
 use borrow.Author.Tests.{le-leb, lt-leb, ltb-true, ltb-false, ne-eqb}
+use Rattle.limits.specs.Limits.{coldStartSamples}
 use Rattle.numbers.specs.Signs.{asUnsigned}
 use Rattle.refusals.specs.Questions.{firstNo}
 use Rattle.pace.specs.Intervals.{clamped, floorAt, nextInterval}
@@ -41,12 +42,12 @@ next before us lo hi some h = simp (ne-eqb us 0 (λ e. absurd (omega arith))) (b
 -- "floor 200 for the first five updates"
 floor-first : (n : ℕ) → n ≤ 5 → floorAt n ≡ 200
 unfolding floorAt
-floor-first n h = simp (le-leb n 5 h)
+floor-first n h = simp (le-leb n coldStartSamples (omega arith))
 
 -- "then 1,000"
 floor-then : (n : ℕ) → 5 < n → floorAt n ≡ 1000
 unfolding floorAt
-floor-then n h = simp (lt-leb n 5 h)
+floor-then n h = simp (lt-leb n coldStartSamples (omega arith))
 
 -- ---- an update that nothing refuses, of so many times SRTT, where `count` updates were counted before
 module _ (ok : Bool) (times before count : ℕ) where
