@@ -1,84 +1,85 @@
--- Which questions a call's refusal comes from: where those of some numbers are answered yes, none of these numbers refuses. So a record that keeps its rule is not
--- refused by 1, and a call whose arguments answer yes is accepted or meets 10.
+-- Which number a call's refusal is, from the questions in their order: behind the rule, those that its own arguments answer, then those that the record answers.
 use mathlib.Core.Path.{_≡_, refl}
 use mathlib.Core.Logic.{_≢_}
 use mathlib.Core.Bool.{Bool, true, false, cond, not, _&&_, _||_}
-use mathlib.Core.List.{List, [], _∷_}
+use mathlib.Core.List.{List, [], _∷_, _++_}
 use Prim.Native.Nat.{ℕ}
 use native.Mathlib.Omega.{arith}
 use lib.Dec.{eqb}
-use lib.IntN.{ℤ}
-use borrow.Author.Tests.{eqb-true, eqb-false, not-false}
+use borrow.Author.Tests.{eqb-false, eq-eqb}
 use Rattle.refusals.proofs.Clauses.{left, right}
-use Rattle.refusals.specs.Questions.{Question, firstNo}
-use Rattle.refusals.specs.Ranges.{clockOk, smoothedOk, boundsOk}
-use Rattle.history.specs.Asked as paper
-use Rattle.history.specs.Asked.{Served}
+use Rattle.refusals.specs.Questions.{Question, question, firstNo}
+use Rattle.history.specs.Asked.{Asked, firstOf, among, Put, put, Judged}
 
--- the questions with a number in N are answered yes
-abbrev pub yesTo : (ℕ → Bool) → List Question → Bool
-yesTo N [] = true
-yesTo N (q ∷ qs) = (not (N (q .number)) || q .answer) && yesTo N qs
+-- ---- not by 1
+-- a question with the number 1 is answered yes
+abbrev pub oneYes : List Question → Bool
+oneYes [] = true
+oneYes (q ∷ qs) = (not (eqb (q .number) 1) || q .answer) && oneYes qs
 
-not-among : (N : ℕ → Bool) (qs : List Question) → N 0 ≡ false → yesTo N qs ≡ true → N (firstNo qs) ≡ false
+not-one : (qs : List Question) → oneYes qs ≡ true → eqb (firstNo qs) 1 ≡ false
 unfolding firstNo
-not-among N [] z h = z
-not-among N (q ∷ qs) z h = go (q .answer) (q .number) (left (not (N (q .number)) || q .answer) (yesTo N qs) h) (not-among N qs z (right (not (N (q .number)) || q .answer) (yesTo N qs) h))
+not-one [] h = refl
+not-one (q ∷ qs) h = go (q .answer) (q .number) (left (not (eqb (q .number) 1) || q .answer) (oneYes qs) h) (not-one qs (right (not (eqb (q .number) 1) || q .answer) (oneYes qs) h))
   where
     none : (b : Bool) → (not b || false) ≡ true → b ≡ false
     none true e = let z : _≡_ {A = ℕ} 0 1 = cc in absurd (omega arith)
     none false e = refl
 
-    go : (a : Bool) (n : ℕ) → (not (N n) || a) ≡ true → N (firstNo qs) ≡ false → N (cond a (firstNo qs) n) ≡ false
+    go : (a : Bool) (n : ℕ) → (not (eqb n 1) || a) ≡ true → eqb (firstNo qs) 1 ≡ false → eqb (cond a (firstNo qs) n) 1 ≡ false
     go true n e k = k
-    go false n e k = none (N n) e
+    go false n e k = none (eqb n 1) e
 
--- 1 is answered yes
-abbrev pub one : ℕ → Bool
-one n = eqb n 1
+-- ---- by the call's own arguments, or by the record
+abbrev pub questions : List Asked → List Question
+questions [] = []
+questions (q ∷ qs) = question (q .number) (q .answer) ∷ questions qs
 
-not-one : (qs : List Question) → yesTo one qs ≡ true → firstNo qs ≢ 1
-not-one qs h = eqb-false (firstNo qs) 1 (not-among one qs refl h)
+abbrev pub numbers : List Question → List ℕ
+numbers [] = []
+numbers (q ∷ qs) = q .number ∷ numbers qs
 
--- all but 10 are answered yes
-abbrev pub others : ℕ → Bool
-others n = not (eqb n 0 || eqb n 10)
+-- where nothing refuses, 0; else one of the numbers asked
+pub data Among : List ℕ → ℕ → Type 0 where
+  none : {ns : List ℕ} → Among ns 0
+  some : {ns : List ℕ} (n : ℕ) → among n ns ≡ true → Among ns n
 
-served-or-full : (n : ℕ) → (eqb n 0 || eqb n 10) ≡ true → Served n
-served-or-full n h = go (eqb n 0) (eqb n 10) (eqb-true n 0) (eqb-true n 10) h
+one-of : (qs : List Question) → Among (numbers qs) (firstNo qs)
+unfolding firstNo
+one-of [] = Among.none
+one-of (q ∷ qs) = go (q .answer) (q .number) (one-of qs)
   where
-    go : (a b : Bool) → (a ≡ true → n ≡ 0) → (b ≡ true → n ≡ 10) → (a || b) ≡ true → Served n
-    go true b f g e = rw (f refl) Served.answered
-    go false true f g e = rw (g refl) Served.counter-full
-    go false false f g e = let z : _≡_ {A = ℕ} 0 1 = cc in absurd (omega arith)
+    or-right : (b : Bool) → (b || true) ≡ true
+    or-right true = refl
+    or-right false = refl
 
-served : (qs : List Question) → yesTo others qs ≡ true → Served (firstNo qs)
-served qs h = served-or-full (firstNo qs) (not-false _ (not-among others qs refl h))
+    go : (a : Bool) (m : ℕ) {k : ℕ} → Among (numbers qs) k → Among (m ∷ numbers qs) (cond a k m)
+    go true m Among.none = Among.none
+    go true m (Among.some n e) = let later : (eqb n m || among n (numbers qs)) ≡ true = rw e (or-right (eqb n m)) in Among.some n later
+    go false m k = let here : (eqb m m || among m (numbers qs)) ≡ true = rw (eq-eqb m m refl) in Among.some m here
 
--- a refusal of a lawful record: not 1, and none but 10 where the arguments answer yes
-pub record Lawful (yes : Bool) (n : ℕ) : Type 0 where
+own-first : (own : List Asked) (late : List Question) → Judged (put own (numbers late)) (firstNo (questions own ++ late))
+unfolding firstNo
+own-first [] late = go (one-of late)
+  where
+    go : {k : ℕ} → Among (numbers late) k → Judged (put [] (numbers late)) k
+    go Among.none = Judged.by-arguments
+    go (Among.some n e) = Judged.by-record n refl e
+own-first (q ∷ own) late = go (q .answer) (q .number) (own-first own late)
+  where
+    go : (b : Bool) (m : ℕ) {k : ℕ} → Judged (put own (numbers late)) k → Judged (put (record { number = m; answer = b } ∷ own) (numbers late)) (cond b k m)
+    go true m Judged.by-arguments = Judged.by-arguments
+    go true m (Judged.by-record n z e) = Judged.by-record n z e
+    go false m k = Judged.by-arguments
+
+-- a refusal behind the rule's yes
+pub record Lawful (p : Put) (n : ℕ) : Type 0 where
   pub not-by-rule : n ≢ 1
-  pub served-if-yes : yes ≡ true → Served n
+  pub as-asked : Judged p n
 
-pub by-questions : {yes : Bool} (qs : List Question) → yesTo one qs ≡ true → (yes ≡ true → yesTo others qs ≡ true) → Lawful yes (firstNo qs)
-by-questions qs rule h = record { not-by-rule = not-one qs rule; served-if-yes = λ y. served qs (h y) }
+pub behind-rule : (own : List Asked) (late : List Question) → oneYes (questions own ++ late) ≡ true → Lawful (put own (numbers late)) (firstNo (questions own ++ late))
+behind-rule own late h = record { not-by-rule = eqb-false (firstNo (questions own ++ late)) 1 (not-one (questions own ++ late) h); as-asked = own-first own late }
 
-pub never-refused : {yes : Bool} → Lawful yes 0
-never-refused = record { not-by-rule = λ e. absurd (omega arith); served-if-yes = λ y. Served.answered }
-
--- questions 1, 2, 8 and 9 of an interval by bounds
-pub record InBounds (us : ℤ) (lo hi : ℕ) : Type 0 where
-  pub clocks : (clockOk lo && clockOk hi) ≡ true
-  pub smoothed : smoothedOk us ≡ true
-  pub order : boundsOk us lo hi ≡ true
-
-pub bounds-yes : (us : ℤ) (lo hi : ℕ) → paper.inBounds us lo hi ≡ true → InBounds us lo hi
-bounds-yes us lo hi h =
-    let c = paper.clock lo && paper.clock hi in
-    let l = left (c && paper.smoothed us) (boundsOk us lo hi) h in
-    let both = left c (paper.smoothed us) l in
-    record {
-      clocks = both;
-      smoothed = right c (paper.smoothed us) l;
-      order = right (c && paper.smoothed us) (boundsOk us lo hi) h;
-    }
+pub never-refused : Lawful (put [] []) 0
+unfolding firstNo
+never-refused = behind-rule [] [] refl

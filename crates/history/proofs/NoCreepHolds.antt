@@ -16,9 +16,9 @@ use Rattle.metrics.proofs.QuestionsAnswered.{kept}
 use Rattle.history.specs.Run.{Entry, All, entry, notFull, callsLeft, asTheyWere, restored}
 use Rattle.history.specs.ExactRoundTrip as exact
 use Rattle.history.specs.Ends.{End, EndNew, EndCall, on-sender, on-receiver, on-metrics, endStep, Log, Side, Two, at, put, Call, ends}
-use Rattle.history.specs.Asked.{capacityOf, endYes}
+use Rattle.history.specs.Asked.{capacityOf, putTo}
 use Rattle.history.specs.Paper.{greatestEtx}
-use Rattle.history.specs.NoCreep.{begun, noneYet, written, reached, accepted, NotByRule, ServedIfYes, recorded, Between, FiguresHold, ReportHolds, endStale, unlessRefused, staleEntry, oneMore, noneStruck, entriesLeft, struckOut, restore, NoCreepHolds}
+use Rattle.history.specs.NoCreep.{begun, noneYet, written, reached, accepted, NotByRule, AsAsked, recorded, Between, FiguresHold, ReportHolds, endStale, unlessRefused, staleEntry, oneMore, noneStruck, entriesLeft, struckOut, restore, NoCreepHolds}
 use Rattle.history.proofs.Runs.{tied-run, all-run, strike-run}
 use Rattle.history.proofs.RefusedStays.{stays}
 use Rattle.history.proofs.Asked.{Lawful}
@@ -60,7 +60,7 @@ figures k x e h =
       seen = t .seen;
     }
 
-lawful : (c : EndCall) (k : EndNew) (x : Log) (e : End) → Held k x e → Lawful (endYes k c) (endStep c e .refusal)
+lawful : (c : EndCall) (k : EndNew) (x : Log) (e : End) → Held k x e → Lawful (putTo k c) (endStep c e .refusal)
 lawful (on-sender c) k x e h = sender-lawful (e .sender) (h .sender .rule) c
 lawful (on-receiver c) k x e h = receiver-lawful (e .receiver) (h .receiver .lawful .rule) (capacityOf (k .receiver)) (h .receiver .capacity) c
 lawful (on-metrics c) k x e h = metrics-lawful (e .metrics) (h .metrics .lawful .rule) c
@@ -128,7 +128,7 @@ no-creep k h fits =
       rules = λ s. let e = held k h fits s in record { sender = e .sender .rule; receiver = e .receiver .lawful .rule; metrics = e .metrics .lawful .rule };
       figures = λ s. figures (at s k) (at s (accepted k h)) (at s (reached k h)) (held k h fits s);
       not-by-rule = every k h fits NotByRule (λ c x w e. let s = c .side in lawful (c .call) (at s k) (at s x) (at s w) (e s) .not-by-rule);
-      served = every k h fits (ServedIfYes k) (λ c x w e. let s = c .side in lawful (c .call) (at s k) (at s x) (at s w) (e s) .served-if-yes);
+      as-asked = every k h fits (AsAsked k) (λ c x w e. let s = c .side in lawful (c .call) (at s k) (at s x) (at s w) (e s) .as-asked);
       reports = every k h fits ReportHolds (λ c x w e. let s = c .side in end-builds-near (c .call) (at s x) (at s w) (e s .receiver .jitter));
       answers = λ places full. struck k h fits places full .0;
       records = λ places full s.

@@ -1,5 +1,5 @@
--- A receiver's record that keeps its rule is not refused by 1, and a call on it whose arguments answer yes is accepted or meets 10. Its window keeps the capacity
--- that it was made with.
+-- A call on a receiver's record that keeps its rule is refused as its own arguments, the record's counters and its live samples say, and not by 1. Its window keeps
+-- the capacity that it was made with.
 use mathlib.Core.Path.{_≡_, refl}
 use mathlib.Core.Bool.{Bool, true, false, cond, _&&_}
 use mathlib.Core.List.{List, [], _∷_, _++_}
@@ -12,13 +12,13 @@ use Rattle.refusals.specs.Answers.{answerU32, answerU64, answerOptionU64}
 use Rattle.refusals.specs.Questions.{question, firstNo}
 use Rattle.refusals.specs.Ranges.{clockOk, delayOk}
 use Rattle.algorithms.specs.Owd as owds
-use Rattle.algorithms.specs.Owd.{windowsOk, samplesOk, pairs, window}
+use Rattle.algorithms.specs.Owd.{samplesOk, pairs, window}
 use Rattle.algorithms.specs.declared.owd.OwdTrendDetector.{OwdTrendDetector}
 use Rattle.pace.specs.Updates as pace
 use Rattle.pace.specs.Updates.{coldStartRefusal, fromSrttRefusal, fromSrtt, withBoundsRefusal, withBounds}
 use Rattle.samples.proofs.SampleKeepsRule.{pushed-keeps-capacity}
 use Rattle.receiver.specs.State.{keepsRule, refusalOf, clockRefusal, updated, startedAt, fresh, newOf, rekeyed, rekeyOf}
-use Rattle.receiver.specs.Frames.{counted, timingSampled, echoIfSampled, pushes, withSample, frameRefusal, frameOf}
+use Rattle.receiver.specs.Frames.{countersOk, counted, timingSampled, echoIfSampled, pushes, withSample, frameRefusal, frameOf}
 use Rattle.receiver.specs.Reports.{someBuilt, noneBuilt, built, reportRefusal, builtOf}
 use Rattle.receiver.specs.Pacing.{fromSrttOf, withBoundsOf, shouldSendOf}
 use Rattle.receiver.specs.declared.ReceiverState.{ReceiverState}
@@ -27,7 +27,7 @@ use Rattle.receiver.proofs.FrameAsked.{sample-in-range}
 use Rattle.history.specs.ReceiverCalls.{ReceiverNew, newReceiver, ReceiverQuestion, receiverTold, Frame, ReceiverCall, receiverStep}
 use Rattle.history.specs.Paper.{defaultWindow}
 use Rattle.history.specs.Asked as paper
-use Rattle.history.proofs.Asked.{Lawful, by-questions, never-refused, bounds-yes}
+use Rattle.history.proofs.Asked.{Lawful, questions, behind-rule, never-refused}
 
 -- ---- the capacity
 abbrev capacityIn : ReceiverState → ℕ
@@ -118,13 +118,13 @@ samples-yes w times ds h = pairs-yes (owds.live w times) (owds.live w ds) (delay
 
 -- ---- the questions, beside windows of the capacity that the record was made with
 module _ (s : ReceiverState) (rule : keepsRule s ≡ true) (capacity : ℕ) (same : capacityIn s ≡ capacity) where
-  asks-rule : {yes : Bool} → Lawful yes (refusalOf s)
-  unfolding refusalOf
-  asks-rule = by-questions _ (rw rule) (λ h. rw rule)
+  asks-rule : Lawful paper.ruleAlone (refusalOf s)
+  unfolding refusalOf firstNo
+  asks-rule = rw rule never-refused
 
-  told-lawful : (q : ReceiverQuestion) → Lawful (paper.receiverAsked q) (receiverTold q s .refusal)
-  unfolding receiverTold shouldSendOf clockRefusal answerU32 answerU64 answerOptionU64
-  told-lawful (ReceiverQuestion.«should_send_report» now) = by-questions _ (rw rule) (λ h. rw (rule, h))
+  told-lawful : (q : ReceiverQuestion) → Lawful (paper.receiverTold q) (receiverTold q s .refusal)
+  unfolding firstNo receiverTold shouldSendOf clockRefusal answerU32 answerU64 answerOptionU64
+  told-lawful (ReceiverQuestion.«should_send_report» now) = rw rule (behind-rule (paper.ask 2 (paper.clock now) ∷ []) [] refl)
   told-lawful ReceiverQuestion.«keeps_rule» = never-refused
   told-lawful ReceiverQuestion.«cumulative_packets_recv» = asks-rule
   told-lawful ReceiverQuestion.«cumulative_bytes_recv» = asks-rule
@@ -134,31 +134,33 @@ module _ (s : ReceiverState) (rule : keepsRule s ≡ true) (capacity : ℕ) (sam
   told-lawful ReceiverQuestion.«last_recv_ms» = asks-rule
   told-lawful ReceiverQuestion.«ecn_ce_count» = asks-rule
 
-  windows-yes : (times : List ℕ) (ds : List ℤ) → paper.windows capacity times ds ≡ true → windowsOk (s .«owd_trend») (length times) (length ds) ≡ true
-  windows-yes times ds h = rw same h
-
   frame-lawful : (f : Frame) (sampled : Bool) → Lawful (paper.frame capacity f) (frameRefusal s (f .times) (f .delays) (f .counter) (f .timestamp) (f .bytes) (f .now) sampled)
-  unfolding frameRefusal
+  unfolding firstNo frameRefusal
   frame-lawful f sampled =
-      by-questions _ (rw rule)
-      (λ h.
-      let c = paper.clock (f .now) in
-      let l = left (c && paper.frameSize (f .bytes)) (paper.windows capacity (f .times) (f .delays)) h in
-      let w = right (c && paper.frameSize (f .bytes)) (paper.windows capacity (f .times) (f .delays)) h in
-      rw (rule, left c (paper.frameSize (f .bytes)) l, right c (paper.frameSize (f .bytes)) l, windows-yes (f .times) (f .delays) w, sample-in-range s (f .timestamp) (f .now) sampled))
+      rw (rule, sample-in-range s (f .timestamp) (f .now) sampled, same)
+      (behind-rule (paper.ask 2 (paper.clock (f .now)) ∷ paper.ask 3 (paper.frameSize (f .bytes)) ∷ paper.ask 4 (paper.windows capacity (f .times) (f .delays)) ∷ [])
+      (question 10 (countersOk s (f .counter) (f .bytes)) ∷ []) refl)
 
-  pub receiver-lawful : (c : ReceiverCall) → Lawful (paper.receiverYes capacity c) (receiverStep c s .refusal)
-  unfolding receiverStep frameOf reportRefusal rekeyOf clockRefusal fromSrttOf fromSrtt fromSrttRefusal withBoundsOf withBounds withBoundsRefusal pace.updated
+  -- question 5 of a report
+  report-lawful : (times : List ℕ) (ds : List ℤ) (now : ℕ) → Lawful (paper.toReceiver capacity (ReceiverCall.«build_report» times ds now)) (reportRefusal s times ds now)
+  unfolding firstNo reportRefusal window
+  report-lawful times ds now = rw (rule, same) (go (paper.delays ds) (samples-yes (s .«owd_trend») times ds))
+    where
+      own : List paper.Asked
+      own = paper.ask 2 (paper.clock now) ∷ paper.ask 4 (paper.windows capacity times ds) ∷ []
+
+      go : (b : Bool) → (b ≡ true → samplesOk (window (s .«owd_trend») times ds) ≡ true) →
+          Lawful (paper.put own (cond b [] (5 ∷ []))) (firstNo (questions own ++ (question 5 (samplesOk (window (s .«owd_trend») times ds)) ∷ [])))
+      go true h = rw (h refl) (behind-rule own [] refl)
+      go false h = behind-rule own (question 5 (samplesOk (window (s .«owd_trend») times ds)) ∷ []) refl
+
+  pub receiver-lawful : (c : ReceiverCall) → Lawful (paper.toReceiver capacity c) (receiverStep c s .refusal)
+  unfolding firstNo receiverStep frameOf rekeyOf clockRefusal fromSrttOf fromSrtt fromSrttRefusal withBoundsOf withBounds withBoundsRefusal pace.updated
   receiver-lawful (ReceiverCall.«record_frame» f sampled) = frame-lawful f sampled
   receiver-lawful (ReceiverCall.«record_recv» f) = frame-lawful f true
-  receiver-lawful (ReceiverCall.«reset_for_rekey» now) = by-questions _ (rw rule) (λ h. rw (rule, h))
-  receiver-lawful (ReceiverCall.«build_report» times ds now) =
-      rw (report-refusal s times ds now)
-      (by-questions _ (rw rule)
-      (λ h.
-      let l = left (paper.clock now && paper.windows capacity times ds) (paper.delays ds) h in
-      let d = right (paper.clock now && paper.windows capacity times ds) (paper.delays ds) h in
-      rw (rule, left (paper.clock now) (paper.windows capacity times ds) l, windows-yes times ds (right (paper.clock now) (paper.windows capacity times ds) l), samples-yes (s .«owd_trend») times ds d)))
-  receiver-lawful (ReceiverCall.«update_report_interval_from_srtt» srtt) = by-questions _ (rw rule) (λ h. rw (rule, h))
-  receiver-lawful (ReceiverCall.«update_report_interval_with_bounds» srtt lo hi) = by-questions _ (rw rule) (λ h. let b = bounds-yes srtt lo hi h in rw (rule, b .clocks, b .smoothed, b .order))
+  receiver-lawful (ReceiverCall.«reset_for_rekey» now) = rw rule (behind-rule (paper.ask 2 (paper.clock now) ∷ []) [] refl)
+  receiver-lawful (ReceiverCall.«build_report» times ds now) = rw (report-refusal s times ds now) (report-lawful times ds now)
+  receiver-lawful (ReceiverCall.«update_report_interval_from_srtt» srtt) = rw rule (behind-rule (paper.ask 8 (paper.smoothed srtt) ∷ []) [] refl)
+  receiver-lawful (ReceiverCall.«update_report_interval_with_bounds» srtt lo hi) =
+      rw rule (behind-rule (paper.ask 2 (paper.clock lo && paper.clock hi) ∷ paper.ask 8 (paper.smoothed srtt) ∷ paper.ask 9 (paper.bounds srtt lo hi) ∷ []) [] refl)
   receiver-lawful (ReceiverCall.ask q) = told-lawful q

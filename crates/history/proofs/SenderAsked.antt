@@ -1,9 +1,12 @@
--- A sender's record that keeps its rule is not refused by 1, and a call on it whose arguments answer yes is accepted or meets 10.
-use mathlib.Core.Path.{_≡_}
-use mathlib.Core.Bool.{Bool, true}
+-- A call on a sender's record that keeps its rule is refused as its own arguments and the record's counters say, and not by 1.
+use mathlib.Core.Path.{_≡_, refl}
+use mathlib.Core.Bool.{true, _&&_}
+use mathlib.Core.List.{[], _∷_}
 use Rattle.refusals.specs.Answers.{answerU32, answerU64, answerF64}
+use Rattle.refusals.specs.Questions.{question, firstNo}
+use Rattle.refusals.specs.Ranges.{counterOk}
 use Rattle.sender.specs.State.{keepsRule, refusalOf}
-use Rattle.sender.specs.Sent.{sentRefusal, sentOf}
+use Rattle.sender.specs.Sent.{countersOk, sentRefusal, sentOf}
 use Rattle.sender.specs.Backoff.{failureRefusal, failureOf, successOf}
 use Rattle.pace.specs.Updates as pace
 use Rattle.pace.specs.Updates.{fromSrttRefusal, fromSrtt, withBoundsRefusal, withBounds}
@@ -13,16 +16,16 @@ use Rattle.sender.specs.declared.SenderState.{SenderState}
 use Rattle.sender.proofs.RuleKept.{report-refusal}
 use Rattle.history.specs.SenderCalls.{SenderQuestion, senderTold, SenderCall, senderStep}
 use Rattle.history.specs.Asked as paper
-use Rattle.history.proofs.Asked.{Lawful, by-questions, never-refused, bounds-yes}
+use Rattle.history.proofs.Asked.{Lawful, behind-rule, never-refused}
 
 module _ (s : SenderState) (rule : keepsRule s ≡ true) where
-  asks-rule : {yes : Bool} → Lawful yes (refusalOf s)
-  unfolding refusalOf
-  asks-rule = by-questions _ (rw rule) (λ h. rw rule)
+  asks-rule : Lawful paper.ruleAlone (refusalOf s)
+  unfolding refusalOf firstNo
+  asks-rule = rw rule never-refused
 
-  told-lawful : (q : SenderQuestion) → Lawful (paper.senderAsked q) (senderTold q s .refusal)
-  unfolding senderTold shouldSendOf reportRefusal answerU32 answerU64 answerF64
-  told-lawful (SenderQuestion.«should_send_report» now) = by-questions _ (rw rule) (λ h. rw (rule, h))
+  told-lawful : (q : SenderQuestion) → Lawful (paper.senderTold q) (senderTold q s .refusal)
+  unfolding firstNo senderTold shouldSendOf reportRefusal answerU32 answerU64 answerF64
+  told-lawful (SenderQuestion.«should_send_report» now) = rw rule (behind-rule (paper.ask 2 (paper.clock now) ∷ []) [] refl)
   told-lawful SenderQuestion.«send_failure_backoff_multiplier» = asks-rule
   told-lawful SenderQuestion.«keeps_rule» = never-refused
   told-lawful SenderQuestion.«cumulative_packets_sent» = asks-rule
@@ -30,12 +33,13 @@ module _ (s : SenderState) (rule : keepsRule s ≡ true) where
   told-lawful SenderQuestion.«report_interval_ms» = asks-rule
   told-lawful SenderQuestion.«consecutive_send_failures» = asks-rule
 
-  pub sender-lawful : (c : SenderCall) → Lawful (paper.senderYes c) (senderStep c s .refusal)
-  unfolding senderStep sentOf sentRefusal reportRefusal failureOf failureRefusal successOf fromSrttOf fromSrtt fromSrttRefusal withBoundsOf withBounds withBoundsRefusal pace.updated
-  sender-lawful (SenderCall.«record_sent» counter timestamp bytes) = by-questions _ (rw rule) (λ h. rw (rule, h))
-  sender-lawful (SenderCall.«build_report» now) = rw (report-refusal s now) (by-questions _ (rw rule) (λ h. rw (rule, h)))
-  sender-lawful SenderCall.«record_send_failure» = by-questions _ (rw rule) (λ h. rw rule)
+  pub sender-lawful : (c : SenderCall) → Lawful (paper.toSender c) (senderStep c s .refusal)
+  unfolding firstNo senderStep sentOf sentRefusal reportRefusal failureOf failureRefusal successOf fromSrttOf fromSrtt fromSrttRefusal withBoundsOf withBounds withBoundsRefusal pace.updated
+  sender-lawful (SenderCall.«record_sent» counter timestamp bytes) = rw rule (behind-rule (paper.ask 3 (paper.frameSize bytes) ∷ []) (question 10 (countersOk s bytes) ∷ []) refl)
+  sender-lawful (SenderCall.«build_report» now) = rw (report-refusal s now, rule) (behind-rule (paper.ask 2 (paper.clock now) ∷ []) [] refl)
+  sender-lawful SenderCall.«record_send_failure» = rw rule (behind-rule [] (question 10 (counterOk 32 (s .«consecutive_send_failures») 1) ∷ []) refl)
   sender-lawful SenderCall.«record_send_success» = asks-rule
-  sender-lawful (SenderCall.«update_report_interval_from_srtt» srtt) = by-questions _ (rw rule) (λ h. rw (rule, h))
-  sender-lawful (SenderCall.«update_report_interval_with_bounds» srtt lo hi) = by-questions _ (rw rule) (λ h. let b = bounds-yes srtt lo hi h in rw (rule, b .clocks, b .smoothed, b .order))
+  sender-lawful (SenderCall.«update_report_interval_from_srtt» srtt) = rw rule (behind-rule (paper.ask 8 (paper.smoothed srtt) ∷ []) [] refl)
+  sender-lawful (SenderCall.«update_report_interval_with_bounds» srtt lo hi) =
+      rw rule (behind-rule (paper.ask 2 (paper.clock lo && paper.clock hi) ∷ paper.ask 8 (paper.smoothed srtt) ∷ paper.ask 9 (paper.bounds srtt lo hi) ∷ []) [] refl)
   sender-lawful (SenderCall.ask q) = told-lawful q

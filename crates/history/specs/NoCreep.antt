@@ -25,7 +25,7 @@ use Rattle.history.specs.Answers.{Fact, Answer}
 use Rattle.history.specs.SenderCalls.{newSender, senderStep}
 use Rattle.history.specs.ReceiverCalls.{ReceiverCall, newReceiver, receiverStep}
 use Rattle.history.specs.MetricsCalls.{MetricsCall, newMetrics, metricsStep}
-use Rattle.history.specs.Asked.{Served, endYes}
+use Rattle.history.specs.Asked.{Judged, putTo}
 use Rattle.history.specs.ExactJitter.{differences}
 use Rattle.history.specs.ExactRoundTrip as exact
 use Rattle.history.specs.Recount.{recounted}
@@ -60,12 +60,12 @@ pub record Rules (e : End) : Type 0 where
   pub receiver : receivers.keepsRule (e .receiver) ≡ true
   pub metrics : metrics.keepsRule (e .metrics) ≡ true
 
--- so no call is refused by 1; and one whose own arguments answer the questions yes is accepted, unless a counter is full
+-- so no call is refused by 1; and each is refused by the first question that its own arguments answer no, or accepted, unless the record answers one no
 abbrev pub NotByRule : Entry ends → Type 0
 NotByRule n = n .refusal ≢ 1
 
-abbrev pub ServedIfYes : Two EndNew → Entry ends → Type 0
-ServedIfYes k n = endYes (at (n .call .side) k) (n .call .call) ≡ true → Served (n .refusal)
+abbrev pub AsAsked : Two EndNew → Entry ends → Type 0
+AsAsked k n = Judged (putTo (at (n .call .side) k) (n .call .call)) (n .refusal)
 
 -- ---- the figures of a metrics record, beside the exact averages of the calls on it
 -- SRTT and RTTVAR as the record has them, from the first round trip on; the rule lets neither be negative
@@ -185,7 +185,7 @@ pub record NoCreep (k : Two EndNew) (h : List Call) : Type 0 where
   pub figures : (s : Side) → FiguresHold (at s (accepted k h) .metrics) (at s (reached k h) .metrics)
   -- every call
   pub not-by-rule : All NotByRule (written k h)
-  pub served : All (ServedIfYes k) (written k h)
+  pub as-asked : All (AsAsked k) (written k h)
   -- every report that a receiver in the list built
   pub reports : All ReportHolds (written k h)
   -- "every other answer .. stay[s] as [it was]": answers and refusals, where no call met 10
