@@ -3,6 +3,6 @@ pub mod StateRuleHolds
 pub mod ChecksHold
 pub mod ReportBytesHold
 pub mod BurstsHold
-pub mod DelayReferenceHolds
+pub mod DelaysHold
 pub mod ReportsDueHold
 pub mod TrendsHold
