@@ -1,25 +1,30 @@
 -- THE INTERVALS BETWEEN REPORTS are document 01's: its multiples, its floors, its top, and its doublings.
 use Prim.Native.Nat.{ℕ, zero, suc, _+_, _-_, _*_, _/_, _^_, _≤_, _<_, min, max}
-use mathlib.Core.Path.{_≡_, refl, sym, ap, _∙_}
-use mathlib.Core.Bool.{Bool, true, false, cond}
+use mathlib.Core.Path.{_≡_, refl, ap}
+use mathlib.Core.Bool.{Bool, true, false, cond, _&&_}
+use mathlib.Core.List.{[], _∷_}
+use native.Mathlib.Nat.{mul-pos, mul-zero}
 use native.Mathlib.Omega.{arith}
-use lib.Dec.{leb, ltb, eqb}
-use lib.IntN.{ℤ, pos}
-use lib.ListN.{getD}
-use borrow.Author.Tests.{le-leb, lt-leb, ltb-true, ltb-false, ne-eqb}
-use Rattle.limits.specs.Limits.{coldStartSamples}
+use lib.Dec.{leb, ltb}
+use lib.IntN.{ℤ, pos, negsuc}
+use lib.Signed.{leZ}
+use borrow.Author.Tests.{le-leb, lt-leb, leb-true, ltb-true, ltb-false, ne-eqb}
+use Rattle.limits.specs.Limits.{coldStartSamples, maxReportInterval}
 use Rattle.numbers.specs.Signs.{asUnsigned}
-use Rattle.refusals.specs.Questions.{firstNo}
-use Rattle.pace.specs.Intervals.{clamped, floorAt, nextInterval}
-use Rattle.pace.specs.Updates.{fromSrttRefusal, updated, fromSrtt}
-use Rattle.sender.specs.State as sender
-use Rattle.sender.specs.Pacing as sender-pacing
+use Rattle.refusals.specs.Questions.{question}
+use Rattle.refusals.specs.Ranges.{clockOk, smoothedOk, boundsOk}
+use Rattle.refusals.proofs.FirstNoFound.{each-yes}
+use Rattle.refusals.proofs.Clauses.{either}
+use Rattle.pace.specs.Intervals.{clamped, floorAt, updateCounted, nextInterval}
+use Rattle.pace.specs.Updates.{fromSrttRefusal, withBoundsRefusal, updated, fromSrtt, withBounds}
+use Rattle.sender.specs.State as sender-state
+use Rattle.sender.specs.Pacing as sender
 use Rattle.sender.specs.Backoff.{backoff}
 use Rattle.sender.specs.declared.SenderState.{SenderState}
-use Rattle.receiver.specs.State as receiver
-use Rattle.receiver.specs.Pacing as receiver-pacing
+use Rattle.receiver.specs.State as receiver-state
+use Rattle.receiver.specs.Pacing as receiver
 use Rattle.receiver.specs.declared.ReceiverState.{ReceiverState}
-use Rattle.sentences.specs.ReportsDue.{interval, multiplied}
+use Rattle.sentences.specs.ReportsDue.{Updated, Bounded, multiplied}
 
 -- between two bounds, the lesser being the lower
 between : (lo hi x : ℕ) → lo ≤ hi → clamped lo hi x ≡ min hi (max lo x)
@@ -49,42 +54,65 @@ floor-then : (n : ℕ) → 5 < n → floorAt n ≡ 1000
 unfolding floorAt
 floor-then n h = simp (lt-leb n coldStartSamples (omega arith))
 
--- ---- an update that nothing refuses, of so many times SRTT, where `count` updates were counted before
-module _ (ok : Bool) (times before count : ℕ) where
-  taken : (srtt lo : ℕ) → fromSrttRefusal ok (pos srtt) ≡ 0 → 1 ≤ times * srtt → lo ≤ 5000 → floorAt (min (count + 1) (2 ^ 32 - 1)) ≡ lo →
-      fromSrtt ok times before count (pos srtt) .«report_interval_ms» ≡ interval times lo srtt
+-- a value of 0 or less asks for no time
+none : (srtt : ℤ) → leZ srtt (pos 0) ≡ true → asUnsigned srtt ≡ 0
+none (pos n) e = let l = leb-true n 0 e in omega arith
+none (negsuc n) e = refl
+
+stays : (before times lo hi : ℕ) (srtt : ℤ) → leZ srtt (pos 0) ≡ true → nextInterval before (times * asUnsigned srtt) lo hi ≡ before
+unfolding nextInterval
+stays before times lo hi srtt z = rw (none srtt z, mul-zero times)
+
+-- question 9 was answered yes
+ordered : (ok : Bool) (us lo hi : ℕ) → 1 ≤ us → withBoundsRefusal ok (pos us) lo hi ≡ 0 → lo ≤ hi
+unfolding withBoundsRefusal
+ordered ok us lo hi l h =
+    let y = each-yes (question 1 ok ∷ question 2 (clockOk lo && clockOk hi) ∷ question 8 (smoothedOk (pos us)) ∷ question 9 (boundsOk (pos us) lo hi) ∷ []) refl h in
+    leb-true lo hi (either (leb us 0) (leb lo hi) (y .1 .1 .1 .0) (lt-leb us 0 l))
+
+-- ---- an update that nothing refuses, from so many times SRTT, where `count` updates were counted before
+module _ (ok : Bool) (times before count : ℕ) (some : 1 ≤ times) where
+  from-srtt : (srtt : ℤ) → fromSrttRefusal ok srtt ≡ 0 →
+      Updated times srtt before (fromSrtt ok times before count srtt .«report_interval_ms») count (fromSrtt ok times before count srtt .«srtt_sample_count»)
   unfolding fromSrtt updated
-  taken srtt lo h some small e = rw (h, e) (next before (times * srtt) lo 5000 some small)
+  from-srtt srtt h =
+      record {
+        first-five = λ us e l c. rw (h, e, floor-first (min (count + 1) (2 ^ 32 - 1)) (omega arith)) (next before (times * us) 200 5000 (mul-pos some l) (omega arith));
+        then-on = λ us e l c. rw (h, e, floor-then (min (count + 1) (2 ^ 32 - 1)) (omega arith)) (next before (times * us) 1000 5000 (mul-pos some l) (omega arith));
+        left = λ z. rw h (stays before times (floorAt (updateCounted count)) maxReportInterval srtt z);
+        counts = rw h;
+      }
 
-  pub first-five : (srtt : ℕ) → fromSrttRefusal ok (pos srtt) ≡ 0 → 1 ≤ times * srtt → count < 5 →
-      fromSrtt ok times before count (pos srtt) .«report_interval_ms» ≡ interval times 200 srtt
-  first-five srtt h some l = taken srtt 200 h some (omega arith) (floor-first (min (count + 1) (2 ^ 32 - 1)) (omega arith))
+  with-bounds : (srtt : ℤ) (lo hi : ℕ) → withBoundsRefusal ok srtt lo hi ≡ 0 →
+      Bounded times lo hi srtt before (withBounds ok times before count srtt lo hi .«report_interval_ms») count (withBounds ok times before count srtt lo hi .«srtt_sample_count»)
+  unfolding withBounds updated
+  with-bounds srtt lo hi h =
+      record {
+        between = λ us e l. rw (h, e) (next before (times * us) lo hi (mul-pos some l) (ordered ok us lo hi l (rw e at h)));
+        left = λ z. rw h (stays before times lo hi srtt z);
+        counts = rw h;
+      }
 
-  pub after-five : (srtt : ℕ) → fromSrttRefusal ok (pos srtt) ≡ 0 → 1 ≤ times * srtt → 5 ≤ count →
-      fromSrtt ok times before count (pos srtt) .«report_interval_ms» ≡ interval times 1000 srtt
-  after-five srtt h some l = taken srtt 1000 h some (omega arith) (floor-then (min (count + 1) (2 ^ 32 - 1)) (omega arith))
+-- ---- "Sender interval is 2 × SRTT, receiver's 1 × SRTT"
+pub sender-updated : (s : SenderState) (srtt : ℤ) → let u = sender.fromSrttOf s srtt in u .refusal ≡ 0 →
+    Updated 2 srtt (s .«report_interval_ms») (u .state .«report_interval_ms») (s .«srtt_sample_count») (u .state .«srtt_sample_count»)
+unfolding sender.fromSrttOf fromSrtt updated
+sender-updated s srtt h = from-srtt (sender-state.keepsRule s) 2 (s .«report_interval_ms») (s .«srtt_sample_count») (omega arith) srtt h
 
--- ---- "Sender interval is 2 × SRTT"
-pub sender-first-five : (s : SenderState) (srtt : ℕ) → sender-pacing.fromSrttOf s (pos srtt) .refusal ≡ 0 → 1 ≤ srtt → s .«srtt_sample_count» < 5 →
-    sender-pacing.fromSrttOf s (pos srtt) .state .«report_interval_ms» ≡ interval 2 200 srtt
-unfolding sender-pacing.fromSrttOf fromSrtt updated
-sender-first-five s srtt h some l = first-five (sender.keepsRule s) 2 (s .«report_interval_ms») (s .«srtt_sample_count») srtt h (omega arith) l
+pub receiver-updated : (s : ReceiverState) (srtt : ℤ) → let u = receiver.fromSrttOf s srtt in u .refusal ≡ 0 →
+    Updated 1 srtt (s .«report_interval_ms») (u .state .«report_interval_ms») (s .«srtt_sample_count») (u .state .«srtt_sample_count»)
+unfolding receiver.fromSrttOf fromSrtt updated
+receiver-updated s srtt h = from-srtt (receiver-state.keepsRule s) 1 (s .«report_interval_ms») (s .«srtt_sample_count») (omega arith) srtt h
 
-pub sender-after-five : (s : SenderState) (srtt : ℕ) → sender-pacing.fromSrttOf s (pos srtt) .refusal ≡ 0 → 1 ≤ srtt → 5 ≤ s .«srtt_sample_count» →
-    sender-pacing.fromSrttOf s (pos srtt) .state .«report_interval_ms» ≡ interval 2 1000 srtt
-unfolding sender-pacing.fromSrttOf fromSrtt updated
-sender-after-five s srtt h some l = after-five (sender.keepsRule s) 2 (s .«report_interval_ms») (s .«srtt_sample_count») srtt h (omega arith) l
+pub sender-bounded : (s : SenderState) (srtt : ℤ) (lo hi : ℕ) → let u = sender.withBoundsOf s srtt lo hi in u .refusal ≡ 0 →
+    Bounded 2 lo hi srtt (s .«report_interval_ms») (u .state .«report_interval_ms») (s .«srtt_sample_count») (u .state .«srtt_sample_count»)
+unfolding sender.withBoundsOf withBounds updated
+sender-bounded s srtt lo hi h = with-bounds (sender-state.keepsRule s) 2 (s .«report_interval_ms») (s .«srtt_sample_count») (omega arith) srtt lo hi h
 
--- ---- "receiver's 1 × SRTT"
-pub receiver-first-five : (s : ReceiverState) (srtt : ℕ) → receiver-pacing.fromSrttOf s (pos srtt) .refusal ≡ 0 → 1 ≤ srtt → s .«srtt_sample_count» < 5 →
-    receiver-pacing.fromSrttOf s (pos srtt) .state .«report_interval_ms» ≡ interval 1 200 srtt
-unfolding receiver-pacing.fromSrttOf fromSrtt updated
-receiver-first-five s srtt h some l = first-five (receiver.keepsRule s) 1 (s .«report_interval_ms») (s .«srtt_sample_count») srtt h (omega arith) l
-
-pub receiver-after-five : (s : ReceiverState) (srtt : ℕ) → receiver-pacing.fromSrttOf s (pos srtt) .refusal ≡ 0 → 1 ≤ srtt → 5 ≤ s .«srtt_sample_count» →
-    receiver-pacing.fromSrttOf s (pos srtt) .state .«report_interval_ms» ≡ interval 1 1000 srtt
-unfolding receiver-pacing.fromSrttOf fromSrtt updated
-receiver-after-five s srtt h some l = after-five (receiver.keepsRule s) 1 (s .«report_interval_ms») (s .«srtt_sample_count») srtt h (omega arith) l
+pub receiver-bounded : (s : ReceiverState) (srtt : ℤ) (lo hi : ℕ) → let u = receiver.withBoundsOf s srtt lo hi in u .refusal ≡ 0 →
+    Bounded 1 lo hi srtt (s .«report_interval_ms») (u .state .«report_interval_ms») (s .«srtt_sample_count») (u .state .«srtt_sample_count»)
+unfolding receiver.withBoundsOf withBounds updated
+receiver-bounded s srtt lo hi h = with-bounds (receiver-state.keepsRule s) 1 (s .«report_interval_ms») (s .«srtt_sample_count») (omega arith) srtt lo hi h
 
 -- ---- "Send failures multiply the sender's by 2, 4, 8, 16, 32, then 32"
 pub failures-multiply : (n : ℕ) → backoff n ≡ multiplied n
