@@ -1,5 +1,6 @@
-// Each read by a reader that is made at a position of a payload: whoever calls this needs no walk.
+// Each read by a reader that is made at a position of a payload, and what a new one has left: whoever calls this needs no walk.
 ghost use mathlib.Core.Path.{_≡_};
+ghost use lib.ListN.{length};
 ghost use Rattle.codec.specs.Reading.{readU8, readU16, readU32, readU64, readArray2, readArray4, readArray8};
 ghost use Rattle.reader.specs.Held.{placeAt};
 use crate::Reader;
@@ -58,4 +59,10 @@ pub fn read_array_8_at(payload: &[u8], pos: usize) -> ReadArray8
 {
     let mut reader = Reader { buf: payload, pos };
     reader.read_array_8()
+}
+
+pub fn remaining(payload: &[u8]) -> usize
+    ensures { λ r. ⌜ r ≡ length (now (payload .entry)) ⌝ }
+{
+    Reader::new(payload).remaining()
 }

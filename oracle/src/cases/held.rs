@@ -1,4 +1,4 @@
-//! Calls 161 to 174: codec.rs, the `Reader` that holds its payload, the reports that it decodes, and what its decoders are made of.
+//! Calls 161 to 175: codec.rs, the `Reader` that holds its payload, the reports that it decodes, and what its decoders are made of.
 
 use crate::cases::codec::{length_at, place, plain_answer, rest_at};
 use crate::cases::wire::{receiver_fields, sender_fields, RECEIVER, SENDER};
@@ -79,6 +79,11 @@ fn needed_for(pos: usize, n: usize) -> Case {
     Case::new(Numbers::of(&[174, pos as u64, n as u64]), (Numbers::of(&[needed as u64]), true))
 }
 
+/// How many bytes a new reader has left: the commit's answer at the start.
+fn remaining(payload: &[u8]) -> Case {
+    Case::new(Numbers::of(&[175]).buffer(payload), plain_answer(101, 0, payload))
+}
+
 /// Every read about the end of a payload, and every report from every place up to 80 bytes.
 pub fn boundary_cases(rng: &mut Rng) -> Vec<Case> {
     let mut cases = vec![];
@@ -103,6 +108,7 @@ pub fn boundary_cases(rng: &mut Rng) -> Vec<Case> {
         let payload = rng.bytes(len);
         cases.extend([168, 169].map(|call| decode(call, 0, &payload)));
         cases.extend([172, 173].map(|call| report_in(call, &payload)));
+        cases.push(remaining(&payload));
         for pos in [
             0,
             1,
@@ -130,6 +136,7 @@ pub fn random_case(rng: &mut Rng, call: u64) -> Case {
         168 | 169 => decode(call, 0, &payload),
         170 | 171 => decode(call, place(rng, len, 67.min(len)), &payload),
         172 | 173 => report_in(call, &payload),
+        175 => remaining(&payload),
         _ => needed_for(rng.number(8) as usize, rng.number(8) as usize),
     }
 }

@@ -1,4 +1,4 @@
-// Calls 161 to 174: the reader that holds its payload, and what its decoders are made of.
+// Calls 161 to 175: the reader that holds its payload, and what its decoders are made of.
 use crate::calls::reader_calls::of_array_2;
 use crate::calls::reader_calls::of_array_4;
 use crate::calls::reader_calls::of_array_8;
@@ -27,7 +27,8 @@ pub fn answer(given: &[u64], payload: &[u8]) -> Reply {
         168..=171 => decoded(given, payload),
         172 => and_sender_report(Reply::new(), sender_report::report_in(payload)),
         173 => and_receiver_report(Reply::new(), receiver_report::report_in(payload)),
-        _ => one(wide(needed_for(usize_of(given, 1), usize_of(given, 2)))),
+        174 => one(wide(needed_for(usize_of(given, 1), usize_of(given, 2)))),
+        _ => one(wide(reads::remaining(payload))),
     }
 }
 
