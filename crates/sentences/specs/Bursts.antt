@@ -1,4 +1,4 @@
--- Document 01, "Jitter, delay trend and bursts", its two sentences on bursts, over the counters of the frames of an interval. Definitions only.
+-- Document 01, "Jitter, delay trend and bursts", its sentences on bursts, over the counters of the frames of an interval. Definitions only.
 use Prim.Native.Nat.{ℕ, zero, suc, _+_, _-_, _*_, _/_, _%_, min, max}
 use mathlib.Core.Bool.{Bool, true, false}
 use mathlib.Core.List.{List, [], _∷_, _++_}

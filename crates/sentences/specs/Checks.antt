@@ -1,11 +1,18 @@
 -- Document 01, "Before any figure: the checks": the numbers that its questions let pass. Definitions only.
-use mathlib.Core.Bool.{Bool, cond, _&&_, _||_}
-use Prim.Native.Nat.{ℕ, _+_, _-_}
+use mathlib.Core.Bool.{Bool, false, cond, _&&_, _||_}
+use Prim.Native.Nat.{ℕ, _+_}
 use lib.Dec.{leb}
 use lib.IntN.{ℤ, pos, negsuc}
 use lib.Signed.{leZ}
-use lib.Ieee.{Float}
-use Rattle.sentences.specs.StateRule.{upTo, between}
+use lib.Ieee.{Float, fin, le}
+
+-- a signed number from 0 up
+abbrev pub upTo : ℕ → ℤ → Bool
+upTo most z = leZ (pos 0) z && leZ z (pos most)
+
+-- a float in a range, and no NaN: m × 2^e to n × 2^k
+abbrev pub between : ℕ → ℕ → ℕ → ℕ → Float → Bool
+between m e n k x = le (fin false m (pos e)) x && le x (fin false n (pos k))
 
 -- 2. "at most 2^48 − 1 ms"
 abbrev pub clock : ℕ → Bool

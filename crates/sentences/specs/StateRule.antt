@@ -1,10 +1,8 @@
 -- Document 01, "State rule", of each record and of what stands in it. Definitions only.
-use mathlib.Core.Bool.{Bool, true, false, cond, not, _&&_, _||_}
+use mathlib.Core.Bool.{Bool, true, cond, not, _&&_, _||_}
 use Prim.Native.Nat.{ℕ, _+_, _-_, _*_}
 use lib.Dec.{leb, ltb, eqb}
-use lib.IntN.{ℤ, pos}
-use lib.Signed.{leZ}
-use lib.Ieee.{Float, fin, le}
+use lib.Ieee.{Float}
 use Rattle.refusals.specs.declared.option.OptionU64.{OptionU64}
 use Rattle.refusals.specs.declared.option.OptionU64.the-variants as option
 use Rattle.algorithms.specs.declared.jitter.JitterEstimator.{JitterEstimator}
@@ -18,11 +16,9 @@ use Rattle.samples.specs.declared.delay.OwdReference.the-variants as reference
 use Rattle.sender.specs.declared.SenderState.{SenderState}
 use Rattle.receiver.specs.declared.ReceiverState.{ReceiverState}
 use Rattle.metrics.specs.declared.MmpMetrics.{MmpMetrics}
+use Rattle.sentences.specs.Checks.{upTo, between, clock, ratio, etx}
 
--- "Clock fields and the report interval obey question 2": at most 2^48 − 1
-abbrev pub clock : ℕ → Bool
-clock ms = leb ms 281474976710655
-
+-- "Clock fields and the report interval obey question 2"
 abbrev pub optionalClock : OptionU64 → Bool
 optionalClock option.None = true
 optionalClock (option.Some ms) = clock ms
@@ -41,10 +37,6 @@ abbrev pub referencePair : OwdReference → Bool
 referencePair reference.None = true
 referencePair (reference.Some recv timestamp) = clock recv
 
--- a signed number from 0 up
-abbrev pub upTo : ℕ → ℤ → Bool
-upTo most z = leZ (pos 0) z && leZ z (pos most)
-
 -- "Scaled jitter is 0 to 2^35"
 abbrev pub jitter : JitterEstimator → Bool
 jitter j = upTo 34359738368 (j .«jitter_q4»)
@@ -60,20 +52,10 @@ bursts t =
     && leb (t .«total_burst_len») (65535 * finished (t .«in_burst») (t .«burst_count»))
 
 -- "SRTT and RTTVAR are 0 to 2^42"
-abbrev pub roundTrip : SrttEstimator → Bool
-roundTrip e = upTo 4398046511104 (e .«srtt_us») && upTo 4398046511104 (e .«rttvar_us»)
+abbrev pub estimator : SrttEstimator → Bool
+estimator e = upTo 4398046511104 (e .«srtt_us») && upTo 4398046511104 (e .«rttvar_us»)
 
--- a float in a range, and no NaN: m × 2^e to n × 2^k
-abbrev pub between : ℕ → ℕ → ℕ → ℕ → Float → Bool
-between m e n k x = le (fin false m (pos e)) x && le x (fin false n (pos k))
-
--- "ratios 0 to 1; ETX 1 to 100; trends 0 to 2^64; goodput 0 to 2^74". 100 is 25 × 2^2
-abbrev pub ratio : Float → Bool
-ratio = between 0 0 1 0
-
-abbrev pub etx : Float → Bool
-etx = between 1 0 25 2
-
+-- "ratios 0 to 1; ETX 1 to 100", as question 11 has them; "trends 0 to 2^64; goodput 0 to 2^74"
 abbrev pub trend : DualEwma → Bool
 trend t = between 0 0 1 64 (t .short) && between 0 0 1 64 (t .long)
 
@@ -105,7 +87,7 @@ receiverRule s =
 unfoldable pub metricsRule : MmpMetrics → Bool
 metricsRule m =
     optionalClock (m .«prev_rr_ms»)
-    && roundTrip (m .srtt)
+    && estimator (m .srtt)
     && (trend (m .«rtt_trend») && trend (m .«loss_trend») && trend (m .«goodput_trend») && trend (m .«jitter_trend») && trend (m .«etx_trend»))
     && (ratio (m .«delivery_ratio_forward») && ratio (m .«delivery_ratio_reverse») && etx (m .etx) && goodput (m .«goodput_bps»))
     && leb (m .«rtt_samples» + m .«rtt_zero» + m .«rtt_arith_fail») (m .«reports_seen»)
