@@ -1,5 +1,5 @@
-//! oracle compare [--cases N] [--seed S] [--replay PATH]
-//!     runs replay on N cases and compares each answer with the commit's
+//! oracle compare [--cases N] [--seed S] [--calls A,B,..] [--replay PATH]
+//!     runs replay on N cases, of these calls alone where they are named, and compares each answer with the commit's
 //! oracle store DIR [--seed S]
 //!     writes DIR/stdin, a script, and DIR/stdout, the commit's answers
 //! oracle covered DIR
@@ -15,12 +15,15 @@ use std::{env, fs, io};
 
 use oracle::script::case::{hush_commit, Case};
 use oracle::script::rng::Rng;
+use oracle::script::tables::call;
 use oracle::script::{covered, report};
 use oracle::{differences, histories, script};
 
 struct Options {
     cases: usize,
     seed: u64,
+    /// All where none is named.
+    calls: Vec<u64>,
     replay: PathBuf,
     dir: Option<PathBuf>,
 }
@@ -29,6 +32,7 @@ fn options(mut words: impl Iterator<Item = String>, cases: usize) -> Option<Opti
     let mut options = Options {
         cases,
         seed: 1,
+        calls: vec![],
         replay: PathBuf::from("target/bin/replay"),
         dir: None,
     };
@@ -36,6 +40,7 @@ fn options(mut words: impl Iterator<Item = String>, cases: usize) -> Option<Opti
         match word.as_str() {
             "--cases" => options.cases = words.next()?.parse().ok()?,
             "--seed" => options.seed = words.next()?.parse().ok()?,
+            "--calls" => options.calls = words.next()?.split(',').map(drawn).collect::<Option<_>>()?,
             "--replay" => options.replay = PathBuf::from(words.next()?),
             _ => options.dir = Some(PathBuf::from(word)),
         }
@@ -43,11 +48,19 @@ fn options(mut words: impl Iterator<Item = String>, cases: usize) -> Option<Opti
     Some(options)
 }
 
+/// A call that is drawn: one that takes arguments.
+fn drawn(word: &str) -> Option<u64> {
+    let number = word.parse().ok()?;
+    let arguments = &call(number)?.arguments;
+    (!arguments.is_empty()).then_some(number)
+}
+
 /// How many cases are made and held at a time.
 const AT_A_TIME: usize = 250_000;
 
 fn compare(options: &Options) -> io::Result<bool> {
-    let mut script = script::Script::new(options.seed);
+    let named = |case: &Case| options.calls.is_empty() || options.calls.contains(&case.call);
+    let mut script = script::Script::new(options.seed).filter(named);
     let mut report = report::Report::default();
     let mut left = options.cases;
     while left > 0 {
@@ -109,7 +122,7 @@ fn main() -> ExitCode {
             ExitCode::FAILURE
         }
         None => {
-            eprintln!("usage: oracle compare [--cases N] [--seed S] [--replay PATH]");
+            eprintln!("usage: oracle compare [--cases N] [--seed S] [--calls A,B,..] [--replay PATH]");
             eprintln!("       oracle store DIR [--seed S]");
             eprintln!("       oracle covered DIR");
             eprintln!("       oracle differences [DOCUMENT] [--replay PATH]");

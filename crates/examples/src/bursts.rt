@@ -1,7 +1,8 @@
-// Document 01's table, the rows of the counters.
+// Document 01's table, the rows of the counters, as document 02 leaves them; and gaps about 65535.
 use crate::lines::holds;
 use crate::lines::number;
 use gaps::GapTracker;
+use refusals::option::OptionU64;
 
 fn after(t: GapTracker, counter: u64) -> GapTracker {
     let o = t.observe(counter);
@@ -27,13 +28,101 @@ pub fn one_burst() {
     number(b"counters 0, 2, 4: mean", stats.mean as u64, 512);
 }
 
-// Counters 0, 65537: 1 burst, max 0, mean 0.
-pub fn whole_turn() {
+// Counters 0, 65537: 1 burst, max 65535, mean 65535.
+pub fn long_outage() {
     let t = after(after(GapTracker::new(), 0), 65537);
     let stats = t.take_interval_stats();
     number(b"counters 0, 65537: bursts", stats.count as u64, 1);
-    number(b"counters 0, 65537: max", stats.max as u64, 0);
-    number(b"counters 0, 65537: mean", stats.mean as u64, 0);
+    number(b"counters 0, 65537: max", stats.max as u64, 65535);
+    number(b"counters 0, 65537: mean", stats.mean as u64, 65535);
+}
+
+// The length of the burst after a frame of this counter.
+fn length_after(t: GapTracker, counter: u64) -> u64 {
+    let tracker = after(t, counter);
+    tracker.current_burst_len as u64
+}
+
+// Document 02, W-201: a gap counts fully and stops at 65535. Here it begins a burst: counter 1 is due.
+pub fn long_gap_begins() {
+    let t = after(GapTracker::new(), 0);
+    number(
+        b"begun by a gap of 65534: length",
+        length_after(t, 65535),
+        65534,
+    );
+    number(
+        b"begun by a gap of 65535: length",
+        length_after(t, 65536),
+        65535,
+    );
+    number(
+        b"begun by a gap of 65536: length",
+        length_after(t, 65537),
+        65535,
+    );
+    number(
+        b"begun by a gap of 65537: length",
+        length_after(t, 65538),
+        65535,
+    );
+    number(b"a gap of 65535: lost", t.observe(65536).lost, 65535);
+    number(b"a gap of 65536: lost", t.observe(65537).lost, 65536);
+    number(b"a gap of 65537: lost", t.observe(65538).lost, 65537);
+}
+
+// And here it extends a burst of 1: counter 3 is due.
+pub fn long_gap_extends() {
+    let t = after(after(GapTracker::new(), 0), 2);
+    number(
+        b"1 and a gap of 65533: length",
+        length_after(t, 65536),
+        65534,
+    );
+    number(
+        b"1 and a gap of 65534: length",
+        length_after(t, 65537),
+        65535,
+    );
+    number(
+        b"1 and a gap of 65535: length",
+        length_after(t, 65538),
+        65535,
+    );
+    number(
+        b"1 and a gap of 65536: length",
+        length_after(t, 65539),
+        65535,
+    );
+    number(
+        b"1 and a gap of 65537: length",
+        length_after(t, 65540),
+        65535,
+    );
+    number(b"1 and a gap of 65537: lost", t.observe(65540).lost, 65537);
+}
+
+// The greatest gap of all, in a burst of 1: counter 0 is due, and the last one comes.
+pub fn longest_gap() {
+    let expected_next = OptionU64::Some(0);
+    let t = GapTracker {
+        expected_next,
+        in_burst: true,
+        current_burst_len: 1,
+        burst_count: 1,
+        max_burst_len: 0,
+        total_burst_len: 0,
+    };
+    number(
+        b"1 and a gap of 2^64 - 1: length",
+        length_after(t, u64::MAX),
+        65535,
+    );
+    number(
+        b"1 and a gap of 2^64 - 1: lost",
+        t.observe(u64::MAX).lost,
+        u64::MAX,
+    );
 }
 
 // A full count of bursts: the frame that would begin one is refused and moves nothing, a frame in order is taken.

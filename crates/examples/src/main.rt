@@ -34,7 +34,10 @@ fn main() {
     lines::heading(b"bursts\n");
     bursts::two_bursts();
     bursts::one_burst();
-    bursts::whole_turn();
+    bursts::long_outage();
+    bursts::long_gap_begins();
+    bursts::long_gap_extends();
+    bursts::longest_gap();
     bursts::full_count();
     lines::heading(b"reports\n");
     reports::sender();

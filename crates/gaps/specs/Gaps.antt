@@ -1,6 +1,6 @@
 -- Gaps in the counters as bursts of lost frames: document 01, "Jitter, delay trend and bursts", and receiver.rs, `GapTracker`. Definitions only.
 use mathlib.Core.Bool.{Bool, true, false, cond, not, _&&_, _||_}
-use Prim.Native.Nat.{ℕ, _+_, _-_, _*_, _%_, _^_, min, max}
+use Prim.Native.Nat.{ℕ, _+_, _-_, _*_, _^_, min, max}
 use lib.Dec.{leb, eqb}
 use Rattle.refusals.specs.Ranges.{counterOk}
 use Rattle.refusals.specs.declared.option.OptionU64.{OptionU64}
@@ -97,11 +97,11 @@ burstRecorded t =
 unfoldable pub burstFinished : GapTracker → GapTracker
 burstFinished t = cond (t .«in_burst») (burstRecorded t) t
 
--- "takes a gap's low 16 bits"
+-- document 02, W-201: "A gap now counts fully and stops at 65,535"
 abbrev pub gapLength : ℕ → ℕ
-gapLength gap = gap % 2 ^ 16
+gapLength gap = min gap maxLength
 
--- "and adds within a burst saturating at 65,535"; outside one the gap begins one
+-- "both when it begins a burst and when it extends one"
 unfoldable pub gapCounted : GapTracker → ℕ → GapTracker
 gapCounted t gap =
     cond (t .«in_burst») (burst t (t .«in_burst») (min (t .«current_burst_len» + gapLength gap) maxLength) (t .«burst_count»))

@@ -47,11 +47,15 @@ pub struct IntervalStats {
     pub tracker: GapTracker,
 }
 
-// Rust's `gap as u16`.
+// The length that a gap adds. It stops before the cast, so that no bit is dropped.
 fn gap_len(gap: u64) -> u16
     ensures { λ r. ⌜ r ≡ gapLength gap ⌝ }
 {
-    (gap % (1 << 16)) as u16
+    if gap <= MAX_BURST_LEN {
+        gap as u16
+    } else {
+        MAX_BURST_LEN as u16
+    }
 }
 
 // The counter that is due after this one, or the one that was due where the frame is late.
@@ -173,14 +177,13 @@ impl GapTracker {
     fn count_gap(self, gap: u64) -> GapTracker
         ensures { λ r. ⌜ r ≡ gapCounted self gap ⌝ }
     {
-        let len = gap_len(gap);
         let mut t = self;
         if self.in_burst {
-            t.current_burst_len = saturating_add_u16(self.current_burst_len, len);
+            t.current_burst_len = saturating_add_u16(self.current_burst_len, gap_len(gap));
             return t;
         }
         t.in_burst = true;
-        t.current_burst_len = len;
+        t.current_burst_len = gap_len(gap);
         t.burst_count = saturating_add_u32(self.burst_count, 1);
         t
     }

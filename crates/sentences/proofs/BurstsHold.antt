@@ -1,5 +1,5 @@
 -- THE BURSTS THAT A REPORT TELLS are those of the gaps between the counters of the interval's frames.
-use Prim.Native.Nat.{ℕ, zero, suc, _+_, _-_, _*_, _/_, _%_, _^_, _≤_, _<_, min, max}
+use Prim.Native.Nat.{ℕ, zero, suc, _+_, _-_, _*_, _/_, _^_, _≤_, _<_, min, max}
 use mathlib.Core.Path.{_≡_, refl, sym, ap, ap₂, _∙_}
 use mathlib.Core.Bool.{Bool, true, false, cond, true≢false}
 use mathlib.Core.List.{List, [], _∷_, _++_, foldl}
@@ -14,7 +14,7 @@ use Rattle.gaps.specs.Stats.{meanBurst, cleared, statsOf}
 use Rattle.gaps.specs.declared.GapTracker.{GapTracker}
 use Rattle.gaps.specs.declared.IntervalStats.{IntervalStats}
 use Rattle.gaps.proofs.RuleKept.{kept}
-use Rattle.sentences.specs.Bursts.{gapsAfter, counted, closed, lengths, bursts, greatest, total, mean}
+use Rattle.sentences.specs.Bursts.{gapsAfter, closed, lengths, bursts, greatest, total, mean}
 
 -- a counter of 64 bits
 abbrev Counters : List ℕ → Type 0
@@ -62,7 +62,7 @@ one-more : (missing : ℕ) (gs : List ℕ) → 1 ≤ length (lengths true missin
 unfolding lengths
 one-more missing [] = omega arith
 one-more missing (zero ∷ gs) = omega arith
-one-more missing (suc g ∷ gs) = one-more (missing + counted (suc g)) gs
+one-more missing (suc g ∷ gs) = one-more (missing + suc g) gs
 
 next-due : (highest counter : ℕ) → counter < 2 ^ 64 → gaps.nextAfter (due highest) counter ≡ due (max highest counter)
 unfolding gaps.nextAfter
@@ -126,16 +126,16 @@ one-frame counter counters wide rest highest underway missing finished most sum 
         (behind _ finished most sum len (lengths false 0 gs) (rest (max highest counter) false 0 (finished + 1) (max most len) (sum + len) (λ e. refl) (omega arith) (omega arith)))
     go false n zero r = rw (next, n refl) (rest (max highest counter) false 0 finished most sum (λ e. refl) small r)
     go true n (suc gap) r =
-        let len : gaps.gapCounted (tracker (due highest) true missing finished most sum) (suc gap) .«current_burst_len» ≡ min (missing + counted (suc gap)) 65535 = omega arith in
+        let len : gaps.gapCounted (tracker (due highest) true missing finished most sum) (suc gap) .«current_burst_len» ≡ min (missing + suc gap) 65535 = omega arith in
         rw (ne-eqb (suc gap) 0 (λ e. absurd (omega arith)), next, len)
-        (rest (max highest counter) true (missing + counted (suc gap)) finished most sum (λ e. absurd (true≢false e)) small r)
+        (rest (max highest counter) true (missing + suc gap) finished most sum (λ e. absurd (true≢false e)) small r)
     go false n (suc gap) r =
         let m = n refl in
-        let o = one-more (missing + counted (suc gap)) gs in
-        let len : gaps.gapCounted (tracker (due highest) false missing finished most sum) (suc gap) .«current_burst_len» ≡ min (missing + counted (suc gap)) 65535 = omega arith in
+        let o = one-more (missing + suc gap) gs in
+        let len : gaps.gapCounted (tracker (due highest) false missing finished most sum) (suc gap) .«current_burst_len» ≡ min (missing + suc gap) 65535 = omega arith in
         let one : min (finished + 1) (2 ^ 32 - 1) ≡ finished + 1 = omega arith in
         rw (ne-eqb (suc gap) 0 (λ e. absurd (omega arith)), next, one, len)
-        (rest (max highest counter) true (missing + counted (suc gap)) finished most sum (λ e. absurd (true≢false e)) small r)
+        (rest (max highest counter) true (missing + suc gap) finished most sum (λ e. absurd (true≢false e)) small r)
 
 told : (counters : List ℕ) → Counters counters → Tells counters
 unfolding gapsAfter lengths

@@ -1,5 +1,5 @@
--- Document 01, "Jitter, delay trend and bursts", its sentences on bursts, over the counters of the frames of an interval. Definitions only.
-use Prim.Native.Nat.{ℕ, zero, suc, _+_, _-_, _*_, _/_, _%_, min, max}
+-- Document 01, "Jitter, delay trend and bursts", its sentences on bursts, and document 02, W-201, over the counters of the frames of an interval. Definitions only.
+use Prim.Native.Nat.{ℕ, zero, suc, _+_, _-_, _*_, _/_, min, max}
 use mathlib.Core.Bool.{Bool, true, false}
 use mathlib.Core.List.{List, [], _∷_, _++_}
 
@@ -8,21 +8,17 @@ unfoldable pub gapsAfter : ℕ → List ℕ → List ℕ
 gapsAfter highest [] = []
 gapsAfter highest (counter ∷ rest) = (counter - (highest + 1)) ∷ gapsAfter (max highest counter) rest
 
--- "takes a gap's low 16 bits"
-abbrev pub counted : ℕ → ℕ
-counted gap = gap % 65536
-
--- a burst of so many missing frames, "saturating at 65,535", if one is open
+-- a burst of so many missing frames, which "stops at 65,535", if one is open
 abbrev pub closed : Bool → ℕ → List ℕ
 closed false missing = []
 closed true missing = min missing 65535 ∷ []
 
--- the lengths of the bursts in these gaps, where one is open or not and has so many missing frames: each gap "adds within a burst", a frame before which none
--- is missing ends it, and "A report closes an open burst"
+-- the lengths of the bursts in these gaps, where one is open or not and has so many missing frames: a gap "counts fully", "both when it begins a burst and
+-- when it extends one"; a frame before which none is missing ends it, and "A report closes an open burst"
 unfoldable pub lengths : Bool → ℕ → List ℕ → List ℕ
 lengths underway missing [] = closed underway missing
 lengths underway missing (zero ∷ gaps) = closed underway missing ++ lengths false 0 gaps
-lengths underway missing (suc gap ∷ gaps) = lengths true (missing + counted (suc gap)) gaps
+lengths underway missing (suc gap ∷ gaps) = lengths true (missing + suc gap) gaps
 
 -- the bursts of an interval that begins outside a burst
 abbrev pub bursts : ℕ → List ℕ → List ℕ

@@ -125,11 +125,11 @@ table =
     ∷ whole (bursts (0 ∷ 2 ∷ 4 ∷ []) .mean) 512
     ∷ []
     )
-    -- counters 0, 65537: 1 burst, max 0, mean 0
+    -- counters 0, 65537, as document 02, W-201, has it: 1 burst, max 65,535, mean 65,535
     ∷ (
     whole (bursts (0 ∷ 65537 ∷ []) .count) 1
-    ∷ whole (bursts (0 ∷ 65537 ∷ []) .max) 0
-    ∷ whole (bursts (0 ∷ 65537 ∷ []) .mean) 0
+    ∷ whole (bursts (0 ∷ 65537 ∷ []) .max) 65535
+    ∷ whole (bursts (0 ∷ 65537 ∷ []) .mean) 65535
     ∷ []
     )
     -- echo 1000, dwell 20, ours 1030 / 1020 / 1019: 10 ms / zero / arithmetic failure

@@ -2,7 +2,7 @@
 
 use crate::proto::mmp::receiver::oracle_access::{finish_burst, new_tracker, observe, take_interval_stats, Tracker};
 use crate::script::bounds::{asked, beside, first_no, maybe, optional};
-use crate::script::case::{commit, Case, Numbers};
+use crate::script::case::{commit, Case, Numbers, LAST_GAP};
 use crate::script::rng::Rng;
 
 /// The greatest length of a burst.
@@ -35,6 +35,21 @@ pub fn begins_burst(t: &Tracker, counter: u64) -> bool {
     !t.in_burst && t.expected_next.is_some_and(|expected| counter > expected)
 }
 
+/// The frames missing before this counter.
+pub fn gap_before(t: &Tracker, counter: u64) -> u64 {
+    t.expected_next.map_or(0, |expected| counter.saturating_sub(expected))
+}
+
+/// The tracker that the commit leaves after a frame behind this gap. Past `LAST_GAP` its burst has the length of document 02, W-201, in place of the commit's;
+/// every other number is the commit's, and what comes next goes on from here.
+pub fn counted(gap: u64, commits: Tracker) -> Tracker {
+    let current_burst_len = if gap > LAST_GAP { u16::MAX } else { commits.current_burst_len };
+    Tracker {
+        current_burst_len,
+        ..commits
+    }
+}
+
 fn on_tracker(call: u64, t: &Tracker, arguments: &[u64], answer: &[u64], outside: bool) -> Case {
     let line = Numbers::of(&[call]).and(&tracker_numbers(t)).and(arguments);
     Case::new(line, (Numbers::of(answer), outside))
@@ -62,8 +77,10 @@ pub fn observed(t: &Tracker, counter: u64) -> (Case, Tracker) {
         after.total_burst_len = t.total_burst_len.saturating_add(len.into());
         (lost, after)
     });
+    let gap = gap_before(t, counter);
+    let after = counted(gap, after);
     let numbers = [&[lost], &tracker_numbers(&after)[..]].concat();
-    (on_tracker(452, t, &[counter], &numbers, outside), after)
+    (on_tracker(452, t, &[counter], &numbers, outside).behind(gap), after)
 }
 
 /// The tracker after its burst ended. A full sum saturates, where the commit panics.
@@ -98,11 +115,12 @@ pub fn observe_asked(t: &Tracker, counter: u64) -> Case {
     // Where the count is full, the commit panics.
     assert!(refusal != 10 || commit(|| observe(t, counter)).is_none());
     let refused = [&[0], &tracker_numbers(t)[..]].concat();
+    let gap = if refusal == 0 { gap_before(t, counter) } else { 0 };
     let answer = asked(refusal, &refused, || {
         let (lost, after) = observe(t, counter);
-        [&[lost], &tracker_numbers(&after)[..]].concat()
+        [&[lost], &tracker_numbers(&counted(gap, after))[..]].concat()
     });
-    Case::new(Numbers::of(&[471]).and(&tracker_numbers(t)).and(&[counter]), answer)
+    Case::new(Numbers::of(&[471]).and(&tracker_numbers(t)).and(&[counter]), answer).behind(gap)
 }
 
 /// A call that asks 1 alone.
@@ -186,6 +204,7 @@ pub fn edges() -> Vec<Tracker> {
         of(true, 0, 0, 0, 0),
         of(true, 65_535, 1, 7, 0),
         of(true, 3, 1, 0, 1),
+        of(true, 1, 1, 0, 0),
         of(false, 0, 1, 65_535, MAX_LEN),
         of(false, 0, 1, 65_535, MAX_LEN + 1),
         of(true, 65_534, 3, 9, 2 * MAX_LEN),
@@ -201,8 +220,11 @@ pub fn edges() -> Vec<Tracker> {
 pub fn boundary_cases() -> Vec<Case> {
     let mut cases = vec![new()];
     for t in edges() {
-        for counter in [0, 99, 100, 101, 100 + 65_535, 100 + 65_536, 100 + 65_537, u64::MAX] {
+        for counter in [0, 99, 100, 101, u64::MAX] {
             cases.extend(all(&t, counter));
+        }
+        for gap in [65_533, 65_534, 65_535, 65_536, 65_537, 131_072] {
+            cases.extend(all(&t, 100 + gap));
         }
         for expected_next in [None, Some(0), Some(u64::MAX), Some(u64::MAX - 1)] {
             for counter in [0, 1, u64::MAX - 1, u64::MAX] {
@@ -247,11 +269,12 @@ pub fn any_tracker(rng: &mut Rng) -> Tracker {
 /// A counter: mostly about the one that is due.
 pub fn counter_for(rng: &mut Rng, t: &Tracker) -> u64 {
     let due = t.expected_next.unwrap_or(7);
-    match rng.below(6) {
+    match rng.below(7) {
         0 => rng.number(8),
         1 => due.saturating_add(rng.number(3)),
         2 => due.saturating_sub(rng.below(9) as u64),
         3 => due.saturating_add(65_536 * rng.below(3) as u64 + rng.below(3) as u64),
+        4 => due.saturating_add(65_532 + rng.below(8) as u64),
         _ => beside(rng, due),
     }
 }

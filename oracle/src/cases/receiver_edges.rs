@@ -209,7 +209,7 @@ fn about_frames(cases: &mut Vec<Case>) {
     let mut ask = |r: &Receiver, call| cases.push(r.call(call).0);
     let plain = plain();
     for t in tracker_edges() {
-        for counter in [0, 24, 25, 26, 99, 100, 101, 100 + 65_536, u64::MAX] {
+        for counter in [0, 24, 25, 26, 99, 100, 101, 100 + 65_535, 100 + 65_536, 100 + 65_537, u64::MAX] {
             let mut r = plain.clone();
             r.fields.gap_tracker = t;
             ask(&r, Call::RecordRecv(frame(counter, 900, 7000)));

@@ -1,4 +1,4 @@
-//! Where the gap tracker and a frame's jitter answer though the commit panics: the smallest input of each, and the commit run on it.
+//! Where the gap tracker and a frame's jitter answer though the commit panics, or otherwise than it: the smallest input of each, and the commit run on it.
 
 use std::collections::VecDeque;
 
@@ -11,6 +11,7 @@ use crate::proto::mmp::receiver::oracle_access::{finish_burst, observe, Tracker}
 
 /// The tracker behind its questions and without them, and the jitter of a frame: without them a full count saturates, a D is reduced.
 pub fn rows(points: &mut Points) {
+    long_gaps(points);
     let full = Tracker {
         expected_next: Some(1),
         burst_count: u32::MAX,
@@ -72,4 +73,35 @@ pub fn rows(points: &mut Points) {
             |numbers| format!("scaled jitter {}", numbers[0]),
         );
     }
+}
+
+/// Document 02, W-201: the first gap that the commit counts otherwise, where it begins a burst and where it extends one.
+fn long_gaps(points: &mut Points) {
+    let due = Tracker {
+        expected_next: Some(1),
+        ..Tracker::default()
+    };
+    let under_way = Tracker {
+        expected_next: Some(3),
+        in_burst: true,
+        current_burst_len: 1,
+        burst_count: 1,
+        ..Tracker::default()
+    };
+    for (t, counter, input) in [
+        (due, 65_537, "counter 65,537 where 1 is expected"),
+        (under_way, 65_539, "a burst of 1 under way, counter 65,539 where 3 is expected"),
+    ] {
+        points.shown(
+            "`GapTracker::observe`",
+            input,
+            || lost_and_length(&observe(&t, counter)),
+            || observe_asked(&t, counter),
+            |numbers| format!("lost {}, length {}", numbers[1], numbers[5]),
+        );
+    }
+}
+
+fn lost_and_length((lost, t): &(u64, Tracker)) -> String {
+    format!("lost {lost}, length {}", t.current_burst_len)
 }

@@ -2,7 +2,7 @@
 
 use std::collections::VecDeque;
 
-use crate::cases::gaps::{begins_burst, tracker_keeps, tracker_numbers};
+use crate::cases::gaps::{begins_burst, counted, gap_before, tracker_keeps, tracker_numbers};
 use crate::proto::mmp::algorithms::oracle_access::owd;
 use crate::proto::mmp::receiver::oracle_access::{fields, state, window, Fields};
 use crate::proto::mmp::receiver::ReceiverState;
@@ -151,13 +151,17 @@ impl Receiver {
             refusal < 9 || commit(|| call.run(&mut self.commit())).is_none(),
             "the commit answers where {refusal} refuses"
         );
+        let frame = call.frame().filter(|_| refusal == 0);
+        let gap = frame.map_or(0, |(frame, _)| gap_before(&self.fields.gap_tracker, frame.counter));
         let (values, after) = if refusal > 0 {
             (vec![0; call.values()], self.clone())
         } else {
             let mut s = self.commit();
             let values = call.run(&mut s);
             let ring = self.ring_after(call, &s);
-            (values, Receiver { fields: fields(&s), ring })
+            let mut fields = fields(&s);
+            fields.gap_tracker = counted(gap, fields.gap_tracker);
+            (values, Receiver { fields, ring })
         };
         let mut answer = Numbers::of(&[refusal]).and(&values);
         if call.moves() {
@@ -166,7 +170,7 @@ impl Receiver {
         if call.frame().is_some() {
             answer = answer.and(&after.ring.windows());
         }
-        (Case::new(line, (answer, refusal > 0)), after)
+        (Case::new(line, (answer, refusal > 0)).behind(gap), after)
     }
 }
 

@@ -13,9 +13,14 @@ pub struct Case {
     pub call: u64,
     pub line: String,
     pub answer: Answer,
-    /// The commit panics here or has nothing to refuse with: the answer is the rule of docs/REPLAY.md.
+    /// The commit panics here, has nothing to refuse with or is parted from by a request: the answer is the rule of docs/REPLAY.md.
     pub outside: bool,
+    /// The frames missing before the one that an accepted call counts; 0 for any other call.
+    pub gap: u64,
 }
+
+/// The greatest gap whose length is the commit's. Document 02, W-201, settles the length of a longer one.
+pub const LAST_GAP: u64 = 65_535;
 
 impl Case {
     pub fn new(line: Numbers, (answer, outside): (Numbers, bool)) -> Self {
@@ -24,7 +29,15 @@ impl Case {
             line: joined(&line.0),
             answer: Answer::Numbers(answer.0),
             outside,
+            gap: 0,
         }
+    }
+
+    /// An accepted frame, with the gap before it.
+    pub fn behind(mut self, gap: u64) -> Self {
+        self.gap = gap;
+        self.outside |= gap > LAST_GAP;
+        self
     }
 
     pub fn malformed(line: String) -> Self {
@@ -33,6 +46,7 @@ impl Case {
             line,
             answer: Answer::Malformed,
             outside: true,
+            gap: 0,
         }
     }
 

@@ -3,7 +3,7 @@
 use std::collections::BTreeMap;
 use std::iter::Sum;
 
-use crate::script::case::{Answer, Case};
+use crate::script::case::{Answer, Case, LAST_GAP};
 use crate::script::tables::{call, Part};
 
 /// How many differing lines are printed in full.
@@ -19,6 +19,8 @@ struct Count {
     refused: usize,
     /// The rules of docs/REPLAY.md: the commit has no such call or state.
     rules: usize,
+    /// Document 02: the commit answers otherwise.
+    requests: usize,
     different: usize,
 }
 
@@ -29,6 +31,7 @@ impl<'a> Sum<&'a Count> for Count {
             commit: all.commit + count.commit,
             refused: all.refused + count.refused,
             rules: all.rules + count.rules,
+            requests: all.requests + count.requests,
             different: all.different + count.different,
         })
     }
@@ -37,6 +40,8 @@ impl<'a> Sum<&'a Count> for Count {
 #[derive(Default)]
 pub struct Report {
     counts: BTreeMap<u64, Count>,
+    /// Accepted frames behind a gap: well below `LAST_GAP`, the last two up to it, the first two past it, longer ones.
+    gaps: [usize; 4],
     shown: usize,
 }
 
@@ -56,7 +61,12 @@ impl Report {
             match (case.outside, refuses(case)) {
                 (false, _) => count.commit += 1,
                 (true, true) => count.refused += 1,
+                (true, false) if case.gap > LAST_GAP => count.requests += 1,
                 (true, false) => count.rules += 1,
+            }
+            if case.gap > 0 {
+                let past = [LAST_GAP - 2, LAST_GAP, LAST_GAP + 2].iter().filter(|end| case.gap > **end);
+                self.gaps[past.count()] += 1;
             }
             let expected = case.expected(i + 1);
             let answer = answers.next();
@@ -84,11 +94,11 @@ impl Report {
 
     /// Prints a line for each call.
     pub fn print(&self) {
-        println!("     call    cases   commit  refused    rules differences");
+        println!("     call    cases   commit  refused    rules requests differences");
         let row = |name: &str, n: &Count| {
             println!(
-                "{name:>9} {:>8} {:>8} {:>8} {:>8} {:>11}",
-                n.cases, n.commit, n.refused, n.rules, n.different
+                "{name:>9} {:>8} {:>8} {:>8} {:>8} {:>8} {:>11}",
+                n.cases, n.commit, n.refused, n.rules, n.requests, n.different
             );
         };
         for (call, count) in &self.counts {
@@ -96,5 +106,9 @@ impl Report {
         }
         let all: Count = self.counts.values().sum();
         row("all", &all);
+        let [below, up_to, past, long] = self.gaps;
+        println!(
+            "accepted frames behind a gap: {below} of 1 to 65533, {up_to} of 65534 and 65535, {past} of 65536 and 65537, {long} of more"
+        );
     }
 }
