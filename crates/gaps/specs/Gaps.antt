@@ -1,4 +1,5 @@
--- Gaps in the counters as bursts of lost frames: document 01, "Jitter, delay trend and bursts", and receiver.rs, `GapTracker`. Definitions only.
+-- Gaps in the counters as bursts of lost frames: document 01, "Jitter, delay trend and bursts", document 02, W-201, and receiver.rs, `GapTracker`.
+-- Definitions only.
 use mathlib.Core.Bool.{Bool, true, false, cond, not, _&&_, _||_}
 use Prim.Native.Nat.{ℕ, _+_, _-_, _*_, _^_, min, max}
 use lib.Dec.{leb, eqb}
@@ -8,7 +9,7 @@ use Rattle.refusals.specs.declared.option.OptionU64.the-variants.{None, Some}
 use Rattle.gaps.specs.declared.GapTracker.{GapTracker}
 use Rattle.gaps.specs.declared.Observed.{Observed}
 
--- at which a burst's length saturates
+-- at which a burst's length stops
 abbrev pub maxLength : ℕ
 maxLength = 2 ^ 16 - 1
 
