@@ -95,13 +95,12 @@ fn long_gaps(points: &mut Points) {
         points.shown(
             "`GapTracker::observe`",
             input,
-            || lost_and_length(&observe(&t, counter)),
+            || {
+                let (lost, after) = observe(&t, counter);
+                format!("lost {lost}, length {}", after.current_burst_len)
+            },
             || observe_asked(&t, counter),
             |numbers| format!("lost {}, length {}", numbers[1], numbers[5]),
         );
     }
-}
-
-fn lost_and_length((lost, t): &(u64, Tracker)) -> String {
-    format!("lost {lost}, length {}", t.current_burst_len)
 }
