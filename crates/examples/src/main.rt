@@ -53,6 +53,7 @@ fn main() {
     receiving::grace();
     receiving::dwell();
     receiving::counters();
+    receiving::outage();
     receiving::late_frame();
     receiving::wrapped_timestamp();
     receiving::restart();

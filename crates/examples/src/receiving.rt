@@ -94,6 +94,27 @@ pub fn counters() {
     number(b"packets", report.cumulative_packets_recv, 4);
 }
 
+// Frames of the counters 0 and 65538.
+fn down_between() -> ReceiverState {
+    counted(counted(ReceiverState::new(2), 0), 65538)
+}
+
+// A mast is down for 65537 frames: a report does not tell a burst of 1.
+pub fn outage() {
+    let times = [0u32; 2];
+    let delays = [0i64; 2];
+    let s = down_between();
+    let built = s.build_report(&times, &delays, 1010);
+    let report = built.report;
+    number(
+        b"65537 frames lost, in a report: bursts",
+        report.burst_loss_count as u64,
+        1,
+    );
+    number(b"max", report.max_burst_loss as u64, 65535);
+    number(b"mean", report.mean_burst_loss as u64, 65535);
+}
+
 // A counter below the highest is late.
 pub fn late_frame() {
     number(
