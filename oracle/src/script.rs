@@ -81,7 +81,7 @@ pub fn stored(rng: &mut Rng) -> Vec<Case> {
     cases
 }
 
-/// The stored list, then random cases without end: mostly single ones, each call in turn by chance; some histories; some malformed.
+/// The stored list, receivers with a window of each size, then random cases without end: mostly single ones, each call in turn by chance; some histories; some malformed.
 pub struct Script {
     rng: Rng,
     pool: Vec<u64>,
@@ -91,8 +91,10 @@ pub struct Script {
 impl Script {
     pub fn new(seed: u64) -> Self {
         let mut rng = Rng::new(seed);
+        let mut ready = stored(&mut rng);
+        ready.extend(receiver_edges::each_size(&mut rng));
         Self {
-            ready: stored(&mut rng).into(),
+            ready: ready.into(),
             pool: pool(),
             rng,
         }

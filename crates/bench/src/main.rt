@@ -1,6 +1,6 @@
 // Runs a call of `wire`, `algorithms` or a record many times, and writes a checksum of what it answered. Arguments: the call's number, as in
 // docs/REPLAY.md, how often, and a count of turns whose checksum is taken off again (0). Calls 0, 300, 400, 500 and 600 are the loops alone. The trend, 334, is
-// over 32 pairs, and as 1334 over 4,096; a frame, 504, is sampled, and as 1504 not; a report processed, 603, is fresh, and as 1603 late. oracle/src/bin/bench is
+// over 32 pairs, and as 1334 over 256, the most that a window holds; a frame, 504, is sampled, and as 1504 not; a report processed, 603, is fresh, and as 1603 late. oracle/src/bin/bench is
 // the same program over the commit's Rust.
 mod calls;
 mod estimators;
@@ -108,13 +108,13 @@ fn run_processed(call: u64, count: u64, numbers: &mut [u64], floats: &mut [f64])
 }
 
 fn window(call: u64) -> usize {
-    if call == 1334 { 4096 } else { 32 }
+    if call == 1334 { 256 } else { 32 }
 }
 
 fn figures_sum(call: u64, count: u64) -> u64 {
     let mut numbers = [0u64; 64];
-    let mut times = [0u32; 4096];
-    let mut delays = [0i64; 4096];
+    let mut times = [0u32; 256];
+    let mut delays = [0i64; 256];
     let n = window(call);
     run_figures(
         call,

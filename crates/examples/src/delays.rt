@@ -27,17 +27,60 @@ pub fn trend() {
     number(b"live pairs", after_two.count as u64, 2);
 }
 
-// A capacity below 2 or above 4,096 is brought into the range.
+fn clamped(name: &[u8], size: usize, capacity: u64) {
+    let window = OwdTrendDetector::new(size);
+    number(name, window.capacity as u64, capacity);
+}
+
+// A capacity that is asked for is clamped to 2 to 256.
 pub fn capacity() {
-    let small = OwdTrendDetector::new(1);
-    number(b"capacity 1 becomes", small.capacity as u64, 2);
-    let large = OwdTrendDetector::new(5000);
-    number(b"capacity 5000 becomes", large.capacity as u64, 4096);
+    clamped(b"a window of 0: capacity", 0, 2);
+    clamped(b"a window of 1: capacity", 1, 2);
+    clamped(b"a window of 2: capacity", 2, 2);
+    clamped(b"a window of 256: capacity", 256, 256);
+    clamped(b"a window of 257: capacity", 257, 256);
+    clamped(b"a window of 2^64 - 1: capacity", 18446744073709551615, 256);
+    let small = OwdTrendDetector::new(2);
     let times = [0u32; 3];
     let delays = [0i64; 2];
     number(
         b"a time window of 3 beside capacity 2",
         small.trend_us_per_sec(&times, &delays).refusal as u64,
+        4,
+    );
+}
+
+fn with_two_pairs(capacity: usize) -> OwdTrendDetector {
+    OwdTrendDetector {
+        capacity,
+        count: 2,
+        first: 0,
+    }
+}
+
+// A wider window breaks the rule, and that is asked before the buffers' lengths.
+pub fn too_wide() {
+    let most = with_two_pairs(256);
+    holds(b"capacity 256 keeps the rule", most.keeps_rule());
+    let one_more = with_two_pairs(257);
+    holds(b"capacity 257 does not", !one_more.keeps_rule());
+    let mut times = [7u32; 300];
+    let mut delays = [7i64; 300];
+    let wide = with_two_pairs(300);
+    number(
+        b"capacity 300, buffers of 300: trend",
+        wide.trend_us_per_sec(&times, &delays).refusal as u64,
+        1,
+    );
+    number(
+        b"capacity 300, buffers of 300: push",
+        wide.push(&mut times, &mut delays, 9, 9).refusal as u64,
+        1,
+    );
+    holds(b"no slot is written", (times[2] == 7) & (delays[2] == 7));
+    number(
+        b"capacity 256, buffers of 300: trend",
+        most.trend_us_per_sec(&times, &delays).refusal as u64,
         4,
     );
 }

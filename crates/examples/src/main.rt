@@ -30,6 +30,7 @@ fn main() {
     lines::heading(b"delays\n");
     delays::trend();
     delays::capacity();
+    delays::too_wide();
     delays::spin();
     lines::heading(b"bursts\n");
     bursts::two_bursts();
@@ -58,6 +59,7 @@ fn main() {
     receiving::wrapped_timestamp();
     receiving::restart();
     receiving::saturated();
+    receiving::large_window();
     receiving::refused_frames();
     receiving::refused_reports();
     lines::heading(b"metrics\n");

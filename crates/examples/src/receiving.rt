@@ -178,6 +178,36 @@ pub fn saturated() {
     );
 }
 
+// A window that was asked for as 4,096 is one of 256: buffers of 4,096 are not its.
+pub fn large_window() {
+    let mut times = [0u32; 4096];
+    let mut delays = [0i64; 4096];
+    let mut s = ReceiverState::new(4096);
+    let asked = s.owd_trend;
+    number(b"a window of 4096: capacity", asked.capacity as u64, 256);
+    let cold = ReceiverState::new_with_cold_start(4096, 500);
+    let started = cold.state;
+    let window = started.owd_trend;
+    number(
+        b"the same with a cold start: capacity",
+        window.capacity as u64,
+        256,
+    );
+    let frame = s.record_recv(&mut times, &mut delays, 0, 0, 100, false, 0);
+    number(b"a frame with buffers of 4096", frame.refusal as u64, 4);
+    let report = s.build_report(&times, &delays, 0);
+    number(b"a report with buffers of 4096", report.refusal as u64, 4);
+    let mut wide = asked;
+    wide.capacity = 4096;
+    s.owd_trend = wide;
+    let refused = s.record_recv(&mut times, &mut delays, 0, 0, 100, false, 0);
+    number(
+        b"a frame to a state of capacity 4096, with its buffers",
+        refused.refusal as u64,
+        1,
+    );
+}
+
 // Refusals by 1, 2 and 3, and by 10 of a full counter.
 pub fn refused_frames() {
     let mut times = [0u32; 2];

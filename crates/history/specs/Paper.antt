@@ -14,12 +14,12 @@ greatestFrame = 2 ^ 32 - 1
 abbrev pub greatestDelay : ℕ
 greatestDelay = 2 ^ 42
 
--- ---- "Capacity is 2 to 4096"; 32 by default
+-- ---- "Capacity is clamped to 2 to 256", document 02; 32 by default
 abbrev pub leastWindow : ℕ
 leastWindow = 2
 
 abbrev pub greatestWindow : ℕ
-greatestWindow = 4096
+greatestWindow = 256
 
 abbrev pub defaultWindow : ℕ
 defaultWindow = 32

@@ -33,4 +33,4 @@ abbrev pub minOwdWindowSize : ℕ
 minOwdWindowSize = 2
 
 abbrev pub maxOwdWindowSize : ℕ
-maxOwdWindowSize = 4096
+maxOwdWindowSize = 256

@@ -1,5 +1,6 @@
 -- The sentences hold of the definitions that the contracts cite.
 pub mod StateRuleHolds
+pub mod CapacityHolds
 pub mod ChecksHold
 pub mod ReportBytesHold
 pub mod BurstsHold

@@ -1,5 +1,6 @@
 -- Sentences of document 01, said apart from the definitions that the code is held against: no file here imports one of those.
 pub mod Checks
+pub mod Capacity
 pub mod StateRule
 pub mod ReportBytes
 pub mod Bursts

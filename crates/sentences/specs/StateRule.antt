@@ -16,6 +16,7 @@ use Rattle.samples.specs.declared.delay.OwdReference.the-variants as reference
 use Rattle.sender.specs.declared.SenderState.{SenderState}
 use Rattle.receiver.specs.declared.ReceiverState.{ReceiverState}
 use Rattle.metrics.specs.declared.MmpMetrics.{MmpMetrics}
+use Rattle.sentences.specs.Capacity.{least, greatest}
 use Rattle.sentences.specs.Checks.{upTo, between, clock, ratio, etx}
 
 -- "Clock fields and the report interval obey question 2"
@@ -28,9 +29,9 @@ abbrev pub deadline : OptionU64 → Bool
 deadline option.None = true
 deadline (option.Some ms) = leb ms 281474976725655
 
--- "Capacity is 2 to 4096, live count at most capacity, first slot below it"
+-- "Capacity is clamped to 2 to 256, and the state rule follows": document 02; "live count at most capacity, first slot below it"
 abbrev pub window : OwdTrendDetector → Bool
-window w = leb 2 (w .capacity) && leb (w .capacity) 4096 && leb (w .count) (w .capacity) && ltb (w .first) (w .capacity)
+window w = leb least (w .capacity) && leb (w .capacity) greatest && leb (w .count) (w .capacity) && ltb (w .first) (w .capacity)
 
 -- "the OWD reference is absent or a valid pair"
 abbrev pub referencePair : OwdReference → Bool

@@ -12,6 +12,7 @@ use crate::proto::mmp::wire::ReceiverReport;
 use crate::records::ends::{Call, End, History};
 use crate::records::metrics_call;
 use crate::records::metrics_state::Metrics;
+use crate::records::owd_ring::MAX_WINDOW;
 use crate::records::receiver_call::{self, Frame};
 use crate::records::receiver_state::Receiver;
 use crate::records::sender_state::{self, Sender};
@@ -69,7 +70,7 @@ fn arriving<T: Clone>(rng: &mut Rng, under_way: &mut Vec<T>) -> Option<T> {
 /// A new end, its windows with any numbers.
 pub fn new_end(rng: &mut Rng) -> End {
     let size = match rng.below(200) {
-        0 => 4096,
+        0 => MAX_WINDOW,
         1..=9 => 32,
         10..=99 => 2 + rng.below(63),
         _ => 2 + rng.below(9),

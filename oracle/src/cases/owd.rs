@@ -4,15 +4,17 @@ use std::collections::VecDeque;
 
 use crate::proto::mmp::algorithms::oracle_access::{owd, owd_window};
 use crate::proto::mmp::algorithms::OwdTrendDetector;
-use crate::records::owd_ring::Ring;
+use crate::proto::mmp::MAX_OWD_WINDOW_SIZE;
+use crate::records::owd_ring::{Ring, MAX_WINDOW};
 use crate::script::bounds::{about, asked, beside, first_no, near, MAX_US};
 use crate::script::case::{pattern, Case, Numbers};
 use crate::script::rng::Rng;
 
-fn new(capacity: u64) -> Case {
+/// The commit's, but for a capacity past the greatest.
+pub fn new(capacity: u64) -> Case {
     let (clamped, live) = owd_window(&OwdTrendDetector::new(capacity as usize));
-    let answer = Numbers::of(&[clamped as u64, live.len() as u64, 0]);
-    Case::new(Numbers::of(&[331, capacity]), (answer, false))
+    let answer = Numbers::of(&[clamped.min(MAX_WINDOW) as u64, live.len() as u64, 0]);
+    Case::new(Numbers::of(&[331, capacity]), (answer, false)).as_requested(clamped > MAX_WINDOW)
 }
 
 /// The commit's window is empty after it, whatever it was.
@@ -54,7 +56,7 @@ fn push_unchecked(r: &Ring, at_ms: u32, owd_us: i64) -> Case {
 
 pub fn trend(r: &Ring) -> Case {
     let answer = asked(r.trend_refusal(), &[0], || vec![pattern(r.commit().trend_us_per_sec())]);
-    Case::new(Numbers::of(&[334]).and(&r.state()).and(&r.windows()), answer)
+    Case::new(Numbers::of(&[334]).and(&r.state()).and(&r.windows()), answer).over(r)
 }
 
 fn keeps_rule(r: &Ring) -> Case {
@@ -184,7 +186,7 @@ fn any_run(rng: &mut Rng) -> Run {
 }
 
 /// States that break a clause of the rule, one each.
-pub fn lawless() -> [Ring; 9] {
+pub fn lawless() -> [Ring; 10] {
     let of = |capacity, count, first, len| Ring {
         capacity,
         count,
@@ -195,7 +197,8 @@ pub fn lawless() -> [Ring; 9] {
     [
         of(0, 0, 0, 0),
         of(1, 1, 0, 1),
-        of(4097, 2, 0, 3),
+        of(MAX_WINDOW + 1, 2, 0, MAX_WINDOW + 1),
+        of(300, 300, 1, 300),
         of(2, 3, 0, 2),
         of(3, 1, 3, 3),
         of(3, usize::MAX, 2, 3),
@@ -206,7 +209,8 @@ pub fn lawless() -> [Ring; 9] {
 }
 
 pub fn boundary_cases(rng: &mut Rng) -> Vec<Case> {
-    let mut cases = Vec::from([0, 1, 2, 3, 32, 4095, 4096, 4097, 1 << 32, u64::MAX].map(new));
+    let mut cases: Vec<Case> = requested_sizes().map(new).collect();
+    cases.extend(each_size(rng));
     for r in lawless() {
         cases.extend([push(&r, 1, 1), trend(&r), clear(&r), keeps_rule(&r), push(&r, 1, MAX_US + 1)]);
         cases.extend([push_unchecked(&r, 1, 1), clear_unchecked(&r)]);
@@ -242,8 +246,60 @@ pub fn boundary_cases(rng: &mut Rng) -> Vec<Case> {
     for (times, delays) in [(4, 4), (3, 4), (4, 5), (0, 0), (u64::MAX, 4)] {
         cases.push(windows_ok(&r, times, delays));
     }
-    let full = ring(rng, 4096, 4096, 4095, &Run::Small);
+    let full = ring(rng, MAX_WINDOW, MAX_WINDOW, MAX_WINDOW - 1, &Run::Small);
     cases.extend([push(&full, 1, 1), trend(&full)]);
+    for r in [commits_widest(), with_widest_buffers(MAX_WINDOW)] {
+        cases.extend([push(&r, 1, 1), trend(&r)]);
+    }
+    cases
+}
+
+/// Sizes to ask for: each that the commit settles, those about the greatest, and the commit's own end.
+pub fn requested_sizes() -> impl Iterator<Item = u64> {
+    let past = [300, COMMITS_MAX - 1, COMMITS_MAX, COMMITS_MAX + 1, 1 << 32, u64::MAX];
+    (0..=MAX_WINDOW as u64 + 2).chain(past)
+}
+
+/// The commit's greatest capacity.
+const COMMITS_MAX: u64 = MAX_OWD_WINDOW_SIZE as u64;
+
+/// A window that the commit takes.
+pub fn commits_widest() -> Ring {
+    with_widest_buffers(MAX_OWD_WINDOW_SIZE)
+}
+
+/// Two pairs, and buffers as long as the commit's greatest capacity.
+pub fn with_widest_buffers(capacity: usize) -> Ring {
+    Ring {
+        capacity,
+        count: 2,
+        ..ring_of(MAX_OWD_WINDOW_SIZE)
+    }
+}
+
+/// A window of each size, filled from new by pushes: its trend when it is full, and again when it wraps.
+fn each_size(rng: &mut Rng) -> Vec<Case> {
+    let mut cases = vec![];
+    for size in 2..=MAX_WINDOW {
+        let (capacity, _) = owd_window(&OwdTrendDetector::new(size));
+        let mut r = ring_of(capacity);
+        let mut at_ms = 0;
+        let mut next = |rng: &mut Rng| {
+            at_ms += 1 + rng.below(20) as u32;
+            let owd_us = rng.below(1000) as i64;
+            (at_ms, if rng.below(16) == 0 { -owd_us } else { owd_us })
+        };
+        for _ in 0..size {
+            let (at_ms, owd_us) = next(rng);
+            r = r.pushed(at_ms, owd_us);
+        }
+        cases.push(trend(&r));
+        for _ in 0..=rng.below(size - 1) {
+            let (at_ms, owd_us) = next(rng);
+            r = r.pushed(at_ms, owd_us);
+        }
+        cases.push(trend(&r));
+    }
     cases
 }
 
@@ -285,11 +341,23 @@ fn about_samples(rng: &mut Rng) -> Vec<Case> {
 /// A capacity: mostly small.
 fn capacity(rng: &mut Rng) -> usize {
     match rng.below(200) {
-        0 => 4096,
-        1..=9 => 33 + rng.below(200),
+        0 => MAX_WINDOW,
+        1..=9 => 33 + rng.below(MAX_WINDOW - 32),
         10..=49 => 32,
         50..=89 => 2,
         _ => 2 + rng.below(12),
+    }
+}
+
+/// A size to ask for: mostly one that the commit settles, or about the ends.
+pub fn requested(rng: &mut Rng) -> u64 {
+    match rng.below(4) {
+        0 => {
+            let end = [2, MAX_WINDOW as u64, COMMITS_MAX][rng.below(3)];
+            beside(rng, end)
+        }
+        1 => rng.number(8),
+        _ => rng.below(MAX_WINDOW + 1) as u64,
     }
 }
 
@@ -301,8 +369,22 @@ pub fn any_ring(rng: &mut Rng) -> Ring {
     ring(rng, capacity, count, first, &run)
 }
 
+/// A full ring about the greatest capacity, or past it, with its buffers.
+fn about_widest(rng: &mut Rng) -> Ring {
+    let capacity = if rng.below(2) == 0 {
+        beside(rng, MAX_WINDOW as u64) as usize
+    } else {
+        MAX_WINDOW + rng.below(64)
+    };
+    let first = rng.below(capacity);
+    ring(rng, capacity, capacity, first, &Run::Small)
+}
+
 /// A ring with something about it that may be refused.
 pub fn spoilt(rng: &mut Rng) -> Ring {
+    if rng.below(20) == 0 {
+        return about_widest(rng);
+    }
     let mut r = any_ring(rng);
     let slot = rng.below(r.capacity);
     match rng.below(8) {
@@ -323,10 +405,7 @@ pub fn spoilt(rng: &mut Rng) -> Ring {
 pub fn random_case(rng: &mut Rng, call: u64) -> Case {
     let r = if rng.below(4) == 0 { spoilt(rng) } else { any_ring(rng) };
     match call {
-        331 => {
-            let end = [2, 4096][rng.below(2)];
-            new(if rng.below(2) == 0 { beside(rng, end) } else { rng.number(8) })
-        }
+        331 => new(requested(rng)),
         332 => clear(&r),
         333 | 338 => {
             let d = if rng.below(4) == 0 { near(rng, MAX_US) } else { wide_delay(rng) };

@@ -1,7 +1,7 @@
 //! Calls 501 to 518 on any state that keeps the rule, or just not.
 
 use crate::cases::gaps::{any_tracker, counter_for, spoil as spoil_tracker};
-use crate::cases::owd::{any_ring, lawless};
+use crate::cases::owd::{any_ring, lawless, requested};
 use crate::cases::receiver_edges::{new, new_with_cold_start};
 use crate::cases::sender::few;
 use crate::proto::mmp::receiver::oracle_access::Fields;
@@ -78,7 +78,7 @@ fn spoil(rng: &mut Rng, r: &mut Receiver) {
         8 => r.ring.count = beside(rng, r.ring.capacity as u64) as usize,
         9 => r.ring.first = beside(rng, r.ring.capacity as u64) as usize,
         10 => r.ring.delays[slot] = [MAX_US, MAX_US + 1, -MAX_US, -MAX_US - 1][rng.below(4)],
-        11 => r.ring = lawless()[rng.below(9)].clone(),
+        11 => r.ring = lawless()[rng.below(10)].clone(),
         _ => {
             r.ring.times.pop();
         }
@@ -138,8 +138,8 @@ fn any_frame(rng: &mut Rng, r: &Receiver) -> Frame {
 
 pub fn random_case(rng: &mut Rng, number: u64) -> Case {
     match number {
-        501 => return new(rng.number(8)),
-        503 => return new_with_cold_start(rng.number(2), clock(rng)),
+        501 => return new(requested(rng)),
+        503 => return new_with_cold_start(requested(rng), clock(rng)),
         _ => {}
     }
     let mut r = any_receiver(rng);

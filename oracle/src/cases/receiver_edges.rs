@@ -1,22 +1,32 @@
 //! Calls 501 to 518 at the boundaries: every clause of the rule and every question, from both sides.
 
 use crate::cases::gaps::edges as tracker_edges;
-use crate::cases::owd::{lawless, ring_of};
+use crate::cases::owd::{commits_widest, lawless, requested_sizes, ring_of, with_widest_buffers};
 use crate::proto::mmp::receiver::oracle_access::{window, Fields};
 use crate::proto::mmp::receiver::ReceiverState;
+use crate::records::owd_ring::MAX_WINDOW;
 use crate::records::receiver_call::{Call, Frame, PLAIN};
 use crate::records::receiver_state::{Receiver, GRACE_MS, MAX_JITTER, SPAN_MS};
 use crate::script::bounds::{about, CLOCKS, MAX_FRAME, MAX_MS, MAX_US};
 use crate::script::case::{Case, Numbers};
+use crate::script::rng::Rng;
 
 fn of(s: &ReceiverState) -> Receiver {
     Receiver::of(s, ring_of(window(s).0))
 }
 
+/// A new state of the commit's with a window that is no wider than the greatest, and whether the commit's is wider.
+fn clamped(s: &ReceiverState) -> (Receiver, bool) {
+    let r = of(s);
+    let wider = r.ring.capacity > MAX_WINDOW;
+    let ring = ring_of(r.ring.capacity.min(MAX_WINDOW));
+    (Receiver { ring, ..r }, wider)
+}
+
 pub fn new(owd_window_size: u64) -> Case {
-    let s = ReceiverState::new(owd_window_size as usize);
-    let answer = Numbers::of(&of(&s).numbers());
-    Case::new(Numbers::of(&[501, owd_window_size]), (answer, false))
+    let (r, wider) = clamped(&ReceiverState::new(owd_window_size as usize));
+    let answer = Numbers::of(&r.numbers());
+    Case::new(Numbers::of(&[501, owd_window_size]), (answer, false)).as_requested(wider)
 }
 
 fn default() -> Case {
@@ -32,8 +42,9 @@ pub fn new_with_cold_start(owd_window_size: u64, cold_start_ms: u64) -> Case {
     } else {
         ReceiverState::default()
     };
-    let answer = Numbers::of(&[if good { 0 } else { 2 }]).and(&of(&s).numbers());
-    Case::new(Numbers::of(&[503, owd_window_size, cold_start_ms]), (answer, !good))
+    let (r, wider) = clamped(&s);
+    let answer = Numbers::of(&[if good { 0 } else { 2 }]).and(&r.numbers());
+    Case::new(Numbers::of(&[503, owd_window_size, cold_start_ms]), (answer, !good)).as_requested(wider)
 }
 
 /// A frame to a plain state.
@@ -123,9 +134,11 @@ fn edges() -> Vec<Receiver> {
 
 pub fn boundary_cases() -> Vec<Case> {
     let mut cases = vec![default()];
-    for size in [0, 1, 2, 3, 32, 4095, 4096, 4097, u64::MAX] {
-        cases.push(new(size));
-        cases.extend([0, 200, MAX_MS, MAX_MS + 1, u64::MAX].map(|ms| new_with_cold_start(size, ms)));
+    for size in requested_sizes() {
+        cases.extend([new(size), new_with_cold_start(size, 200)]);
+    }
+    for size in [0, 2, 32, MAX_WINDOW as u64, u64::MAX] {
+        cases.extend([0, MAX_MS, MAX_MS + 1, u64::MAX].map(|ms| new_with_cold_start(size, ms)));
     }
     for r in edges() {
         all(&r, &mut cases);
@@ -133,6 +146,33 @@ pub fn boundary_cases() -> Vec<Case> {
     about_questions(&mut cases);
     about_frames(&mut cases);
     about_order(&mut cases);
+    cases
+}
+
+/// A state with a window of each size, from new: frames until the window is full, a report, frames until it wraps, a report. Of the frames the two at the turn
+/// are cases.
+pub fn each_size(rng: &mut Rng) -> Vec<Case> {
+    let mut cases = vec![];
+    for size in 2..=MAX_WINDOW {
+        let mut r = of(&ReceiverState::new(size));
+        let (mut counter, mut now_ms) = (0, 1000);
+        let mut next = |r: &Receiver| {
+            counter += 1;
+            now_ms += 1 + rng.below(60) as u64;
+            let timestamp = (now_ms - 1000 + rng.below(30) as u64) as u32;
+            r.call(Call::RecordRecv(frame(counter, timestamp, now_ms)))
+        };
+        for _ in 1..size {
+            r = next(&r).1;
+        }
+        let (filling, full) = next(&r);
+        let (told, reported) = full.call(Call::BuildReport(70_000));
+        let (dropping, mut r) = next(&reported);
+        while r.ring.first < size / 2 {
+            r = next(&r).1;
+        }
+        cases.extend([filling, told, dropping, r.call(Call::BuildReport(70_000)).0]);
+    }
     cases
 }
 
@@ -173,11 +213,16 @@ fn about_questions(cases: &mut Vec<Case>) {
             ask(&r, Call::BuildReport(7000));
         }
     }
+    let f = frame(30, 900, 7000);
+    for ring in [commits_widest(), with_widest_buffers(MAX_WINDOW)] {
+        let r = Receiver { ring, ..plain.clone() };
+        ask(&r, Call::RecordRecv(f));
+        ask(&r, Call::BuildReport(7000));
+    }
     for (times, delays) in [(3, 4), (4, 3), (5, 5), (0, 0)] {
         let mut r = plain.clone();
         r.ring.times.resize(times, 1);
         r.ring.delays.resize(delays, MAX_US + 1);
-        let f = frame(30, 900, 7000);
         for call in [
             Call::RecordFrame(f, false),
             Call::RecordRecv(f),

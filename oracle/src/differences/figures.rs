@@ -2,16 +2,16 @@
 
 use std::collections::VecDeque;
 
-use crate::cases::owd::{clear, push, ring_of, ring_with, trend};
+use crate::cases::owd::{clear, new, push, ring_of, ring_with, trend};
 use crate::cases::{codec, etx, ewma, jitter};
 use crate::cases::{spin, srtt, wire};
 use crate::differences::Points;
 use crate::proto::codec::oracle_access::{reader, writer};
 use crate::proto::codec::Writer;
 use crate::proto::mmp::algorithms::oracle_access::{ewma, jitter, owd, owd_window, spin, spin_fields, srtt};
-use crate::proto::mmp::algorithms::{compute_etx, quality_index};
+use crate::proto::mmp::algorithms::{compute_etx, quality_index, OwdTrendDetector};
 use crate::proto::mmp::wire::{PathMtuNotification, ReceiverReport, SenderReport};
-use crate::records::owd_ring::Ring;
+use crate::records::owd_ring::{Ring, MAX_WINDOW};
 use crate::records::receiver_state::MAX_JITTER;
 use crate::script::bounds::{MAX_MS, MAX_TREND, MAX_US};
 
@@ -199,7 +199,12 @@ fn delays(points: &mut Points) {
         capacity: 2,
         ..ring_with(&[(0, 0); 3])
     };
-    for (ring, input) in [(&one, "capacity 1, one pair"), (&three, "capacity 2, three pairs")] {
+    let wide = ring_of(MAX_WINDOW + 1);
+    for (ring, input) in [
+        (&one, "capacity 1, one pair"),
+        (&wide, "capacity 257, no pair"),
+        (&three, "capacity 2, three pairs"),
+    ] {
         let grown = || {
             let mut c = owd(ring.capacity, vec![(0, 0); ring.count].into());
             c.push(1, 0);
@@ -207,6 +212,13 @@ fn delays(points: &mut Points) {
         };
         points.row("`OwdTrendDetector::push`", input, grown, || push(ring, 1, 0));
     }
+    points.shown(
+        "`OwdTrendDetector::new`",
+        "a size of 257",
+        || format!("capacity {}", owd_window(&OwdTrendDetector::new(MAX_WINDOW + 1)).0),
+        || new(MAX_WINDOW as u64 + 1),
+        |numbers| format!("capacity {}", numbers[0]),
+    );
     points.row(
         "`OwdTrendDetector::clear`",
         "capacity 1, one pair",

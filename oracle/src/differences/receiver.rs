@@ -6,6 +6,7 @@ use crate::differences::{yes, Points};
 use crate::proto::mmp::algorithms::oracle_access::owd;
 use crate::proto::mmp::receiver::oracle_access as receiver_access;
 use crate::proto::mmp::receiver::ReceiverState;
+use crate::records::owd_ring::MAX_WINDOW;
 use crate::records::receiver_call::{Call as OnReceiver, Frame};
 use crate::records::receiver_state::{Receiver, GRACE_MS};
 use crate::script::bounds::{MAX_FRAME, MAX_MS, MAX_US};
@@ -148,6 +149,26 @@ fn calls(points: &mut Points) {
     points.row("`ReceiverState::new_with_cold_start`", "2^48 ms", cold_start, || {
         receiver_edges::new_with_cold_start(2, late)
     });
+    wide_requests(points);
+}
+
+/// Document 02, W-202: the first size that the commit takes and the port clamps.
+fn wide_requests(points: &mut Points) {
+    let capacity = |s: &ReceiverState| format!("capacity {}", receiver_access::window_size(s).0);
+    points.shown(
+        "`ReceiverState::new`",
+        "a size of 257",
+        || capacity(&ReceiverState::new(MAX_WINDOW + 1)),
+        || receiver_edges::new(MAX_WINDOW as u64 + 1),
+        |numbers| format!("capacity {}", numbers[7]),
+    );
+    points.shown(
+        "`ReceiverState::new_with_cold_start`",
+        "a size of 257, 0 ms",
+        || capacity(&ReceiverState::new_with_cold_start(MAX_WINDOW + 1, 0)),
+        || receiver_edges::new_with_cold_start(MAX_WINDOW as u64 + 1, 0),
+        |numbers| format!("capacity {}", numbers[8]),
+    );
 }
 
 /// States that break the receiver's rule, a clause each.
@@ -238,12 +259,13 @@ fn rule(points: &mut Points) {
     on(name, "reference at 2^48, clock 0", reference, frame(0, 0, 0), &|_, f| {
         format!("reference at {}", f.owd_ref.map_or(0, |(recv_ms, _)| recv_ms))
     });
-    let narrow = with(&|r| r.ring = ring_of(1));
-    on(
-        "`ReceiverState::reset_for_rekey`",
-        "capacity 1, clock 0",
-        narrow,
-        OnReceiver::Rekey(0),
-        &|_, f| format!("grace until {}", f.rekey_jitter_grace_until_ms.unwrap_or(0)),
-    );
+    for (capacity, input) in [(1, "capacity 1, clock 0"), (MAX_WINDOW + 1, "capacity 257, clock 0")] {
+        on(
+            "`ReceiverState::reset_for_rekey`",
+            input,
+            with(&|r| r.ring = ring_of(capacity)),
+            OnReceiver::Rekey(0),
+            &|_, f| format!("grace until {}", f.rekey_jitter_grace_until_ms.unwrap_or(0)),
+        );
+    }
 }

@@ -6,6 +6,9 @@ use crate::proto::mmp::algorithms::oracle_access::{owd, owd_window};
 use crate::proto::mmp::algorithms::OwdTrendDetector;
 use crate::script::bounds::{first_no, MAX_US};
 
+/// The greatest capacity, document 02, W-202: a larger size that is asked for gets it, and a state that has a larger one breaks the rule. The commit goes on further.
+pub const MAX_WINDOW: usize = 256;
+
 /// A detector with the windows that it is lent.
 #[derive(Clone)]
 pub struct Ring {
@@ -22,7 +25,7 @@ pub fn delay_ok(us: i64) -> bool {
 
 impl Ring {
     pub fn keeps(&self) -> bool {
-        (2..=4096).contains(&self.capacity) && self.count <= self.capacity && self.first < self.capacity
+        (2..=MAX_WINDOW).contains(&self.capacity) && self.count <= self.capacity && self.first < self.capacity
     }
 
     pub fn windows_ok(&self) -> bool {
@@ -39,6 +42,11 @@ impl Ring {
         all.push(self.delays.len() as u64);
         all.extend(self.delays.iter().map(|d| *d as u64));
         all
+    }
+
+    /// Whether the live pairs go on at slot 0 after the last slot.
+    pub fn wrapped(&self) -> bool {
+        self.first + self.count > self.capacity
     }
 
     /// The live pairs of a ring that keeps the rule and has its windows.

@@ -170,7 +170,9 @@ impl Receiver {
         if call.frame().is_some() {
             answer = answer.and(&after.ring.windows());
         }
-        (Case::new(line, (answer, refusal > 0)).behind(gap), after)
+        let case = Case::new(line, (answer, refusal > 0)).behind(gap);
+        let tells_trend = matches!(call, Call::BuildReport(_)) && values.first() == Some(&1);
+        (if tells_trend { case.over(&self.ring) } else { case }, after)
     }
 }
 

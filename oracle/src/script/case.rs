@@ -3,6 +3,8 @@
 use std::cell::Cell;
 use std::panic::{self, AssertUnwindSafe};
 
+use crate::records::owd_ring::Ring;
+
 pub enum Answer {
     Numbers(Vec<u64>),
     Malformed,
@@ -15,8 +17,12 @@ pub struct Case {
     pub answer: Answer,
     /// The commit panics here, has nothing to refuse with or is parted from by a request: the answer is the rule of docs/REPLAY.md.
     pub outside: bool,
+    /// Whether it is a request of document 02 that parts from the commit.
+    pub requested: bool,
     /// The frames missing before the one that an accepted call counts; 0 for any other call.
     pub gap: u64,
+    /// The window of an accepted trend or report, where it is full: its size, and whether it wraps.
+    pub window: Option<(usize, bool)>,
 }
 
 /// The greatest gap whose length is the commit's. Document 02, W-201, settles the length of a longer one.
@@ -29,14 +35,29 @@ impl Case {
             line: joined(&line.0),
             answer: Answer::Numbers(answer.0),
             outside,
+            requested: false,
             gap: 0,
+            window: None,
         }
+    }
+
+    /// Where a request parts from the commit, what it alters is the request's.
+    pub fn as_requested(mut self, parts: bool) -> Self {
+        self.requested |= parts;
+        self.outside |= parts;
+        self
     }
 
     /// An accepted frame, with the gap before it.
     pub fn behind(mut self, gap: u64) -> Self {
         self.gap = gap;
-        self.outside |= gap > LAST_GAP;
+        self.as_requested(gap > LAST_GAP)
+    }
+
+    /// A trend, or a report with one, of this window.
+    pub fn over(mut self, ring: &Ring) -> Self {
+        let full = ring.count == ring.capacity;
+        self.window = (full && !self.outside).then(|| (ring.capacity, ring.wrapped()));
         self
     }
 
@@ -46,7 +67,9 @@ impl Case {
             line,
             answer: Answer::Malformed,
             outside: true,
+            requested: false,
             gap: 0,
+            window: None,
         }
     }
 

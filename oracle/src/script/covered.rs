@@ -1,8 +1,9 @@
 //! Whether a script with its answers has every call of docs/REPLAY.md's tables, every refusal that a row names, both answers of every bool, every kind of the
-//! others, and every way to be malformed.
+//! others, and every way to be malformed; and every size of a window that the commit settles, asked for, and full in a trend, wrapped and not.
 
 use std::collections::BTreeSet;
 
+use crate::records::owd_ring::MAX_WINDOW;
 use crate::script::lines::{misfits, read, Fault};
 use crate::script::tables::{calls, Call, Part};
 
@@ -13,7 +14,15 @@ enum Shown {
     /// A part of a call's answer, by its place, with its number.
     Part(u64, usize, u64),
     Malformed(Fault),
+    /// A constructor's size.
+    Size(u64, u64),
+    /// A full window with a trend: its size, and whether it wraps.
+    Trend(u64, bool),
 }
+
+/// The calls that are asked for a size, first among their arguments, and the one that tells the trend of a window.
+const CONSTRUCTORS: [u64; 3] = [331, 501, 503];
+const TREND: u64 = 334;
 
 /// Everything that the tables have.
 fn wanted() -> BTreeSet<Shown> {
@@ -48,13 +57,28 @@ fn wanted() -> BTreeSet<Shown> {
             all.extend(faults.map(Shown::Malformed));
         }
     }
+    for size in 0..=MAX_WINDOW as u64 + 1 {
+        all.extend(CONSTRUCTORS.map(|call| Shown::Size(call, size)));
+    }
+    for size in 2..=MAX_WINDOW as u64 {
+        all.extend([false, true].map(|wrapped| Shown::Trend(size, wrapped)));
+    }
     all
 }
 
-/// What a good line's answer shows: on a refusal nothing beside it.
-fn shown(call: &Call, answer: &str) -> Vec<Shown> {
+/// What a good line and its answer show: on a refusal nothing beside it.
+fn shown(call: &Call, arguments: &[u64], answer: &str) -> Vec<Shown> {
     let numbers: Vec<u64> = answer.split(' ').filter_map(|n| n.parse().ok()).collect();
     let mut all = vec![Shown::Line(call.number)];
+    if CONSTRUCTORS.contains(&call.number) {
+        all.push(Shown::Size(call.number, arguments[0]));
+    }
+    if call.number == TREND && numbers[0] == 0 {
+        let (capacity, count, first) = (arguments[0], arguments[1], arguments[2]);
+        if count == capacity {
+            all.push(Shown::Trend(capacity, first > 0));
+        }
+    }
     for (at, part) in &call.parts {
         all.push(Shown::Part(call.number, *at, numbers[*at]));
         if *part == Part::Refusal && numbers[*at] > 0 {
@@ -79,6 +103,12 @@ fn told(shown: Shown) -> String {
         Shown::Malformed(Fault::Many(call)) => format!("{}: a number too many", name(call)),
         Shown::Malformed(Fault::Argument(call, i, misfit)) => format!("{}: argument {i} malformed, {misfit:?}", name(call)),
         Shown::Malformed(fault) => format!("malformed: {fault:?}"),
+        Shown::Size(call, size) => format!("{}: a size of {size}", name(call)),
+        Shown::Trend(size, wrapped) => format!(
+            "{}: a full window of {size}, {}",
+            name(TREND),
+            if wrapped { "wrapped" } else { "not wrapped" }
+        ),
     }
 }
 
@@ -93,7 +123,7 @@ pub fn covered(script: &str, answers: &str) -> bool {
     for (i, (line, answer)) in script.split('\n').zip(answers.lines()).enumerate() {
         let malformed = answer.starts_with("malformed");
         let seen = match read(line) {
-            Ok((call, _)) if !malformed => shown(call, answer),
+            Ok((call, arguments)) if !malformed => shown(call, &arguments, answer),
             Err(fault) if malformed => vec![Shown::Malformed(fault)],
             _ => {
                 println!("line {}: the tables and the answer disagree whether it is malformed", i + 1);

@@ -1,8 +1,9 @@
 //! What the comparison found, call by call.
 
-use std::collections::BTreeMap;
+use std::collections::{BTreeMap, BTreeSet};
 use std::iter::Sum;
 
+use crate::records::owd_ring::MAX_WINDOW;
 use crate::script::case::{Answer, Case, LAST_GAP};
 use crate::script::tables::{call, Part};
 
@@ -42,6 +43,8 @@ pub struct Report {
     counts: BTreeMap<u64, Count>,
     /// Accepted frames behind a gap: well below `LAST_GAP`, the last two up to it, the first two past it, longer ones.
     gaps: [usize; 4],
+    /// The full windows whose trend the commit settles, by call: their sizes, not wrapped and wrapped.
+    windows: BTreeMap<u64, [BTreeSet<usize>; 2]>,
     shown: usize,
 }
 
@@ -61,12 +64,15 @@ impl Report {
             match (case.outside, refuses(case)) {
                 (false, _) => count.commit += 1,
                 (true, true) => count.refused += 1,
-                (true, false) if case.gap > LAST_GAP => count.requests += 1,
+                (true, false) if case.requested => count.requests += 1,
                 (true, false) => count.rules += 1,
             }
             if case.gap > 0 {
                 let past = [LAST_GAP - 2, LAST_GAP, LAST_GAP + 2].iter().filter(|end| case.gap > **end);
                 self.gaps[past.count()] += 1;
+            }
+            if let Some((size, wrapped)) = case.window {
+                self.windows.entry(case.call).or_default()[usize::from(wrapped)].insert(size);
             }
             let expected = case.expected(i + 1);
             let answer = answers.next();
@@ -110,5 +116,13 @@ impl Report {
         println!(
             "accepted frames behind a gap: {below} of 1 to 65533, {up_to} of 65534 and 65535, {past} of 65536 and 65537, {long} of more"
         );
+        for (call, [straight, wrapped]) in &self.windows {
+            println!(
+                "full windows of 2 to {MAX_WINDOW} whose trend {call} tells: {} of {} sizes not wrapped, {} wrapped",
+                straight.len(),
+                MAX_WINDOW - 1,
+                wrapped.len()
+            );
+        }
     }
 }

@@ -176,7 +176,7 @@ fn wrapped(n: usize) -> OwdTrendDetector {
 
 #[inline(never)]
 fn figures(call: u64, count: u64) -> u64 {
-    let n = if call == 1334 { 4096 } else { 32 };
+    let n = if call == 1334 { 256 } else { 32 };
     let mut numbers = [0; 64];
     let mut detector = wrapped(n);
     let mut x = START;
