@@ -60,6 +60,7 @@ fn main() {
     receiving::restart();
     receiving::saturated();
     receiving::large_window();
+    receiving::wide_window();
     receiving::refused_frames();
     receiving::refused_reports();
     lines::heading(b"metrics\n");

@@ -182,7 +182,7 @@ pub fn saturated() {
 pub fn large_window() {
     let mut times = [0u32; 4096];
     let mut delays = [0i64; 4096];
-    let mut s = ReceiverState::new(4096);
+    let s = ReceiverState::new(4096);
     let asked = s.owd_trend;
     number(b"a window of 4096: capacity", asked.capacity as u64, 256);
     let cold = ReceiverState::new_with_cold_start(4096, 500);
@@ -197,13 +197,31 @@ pub fn large_window() {
     number(b"a frame with buffers of 4096", frame.refusal as u64, 4);
     let report = s.build_report(&times, &delays, 0);
     number(b"a report with buffers of 4096", report.refusal as u64, 4);
-    let mut wide = asked;
-    wide.capacity = 4096;
+}
+
+// A state with a wider window breaks the rule, though the buffers are as long as it.
+pub fn wide_window() {
+    let mut times = [0u32; 257];
+    let mut delays = [0i64; 257];
+    let mut s = ReceiverState::new(257);
+    let mut wide = s.owd_trend;
+    wide.capacity = 257;
     s.owd_trend = wide;
-    let refused = s.record_recv(&mut times, &mut delays, 0, 0, 100, false, 0);
+    let frame = s.record_recv(&mut times, &mut delays, 0, 0, 100, false, 0);
     number(
-        b"a frame to a state of capacity 4096, with its buffers",
-        refused.refusal as u64,
+        b"capacity 257, buffers of 257: a frame",
+        frame.refusal as u64,
+        1,
+    );
+    let report = s.build_report(&times, &delays, 0);
+    number(
+        b"capacity 257, buffers of 257: a report",
+        report.refusal as u64,
+        1,
+    );
+    number(
+        b"capacity 257: a rekey",
+        s.reset_for_rekey(0).refusal as u64,
         1,
     );
 }
