@@ -13,7 +13,7 @@ use Rattle.algorithms.specs.declared.owd.OwdTrendDetector.{OwdTrendDetec
 use Rattle.algorithms.specs.declared.owd.OwdUpdate.{OwdUpdate}
 
 -- ---- the rule: document 01, State rule
--- "Capacity is clamped to 2 to 256, and the state rule follows": document 02
+-- "Capacity is clamped to 2 to 256, and the state rule follows": document 02, W-202
 abbrev pub capacityOk : OwdTrendDetector → Bool
 capacityOk s = leb minOwdWindowSize (s .capacity) && leb (s .capacity) maxOwdWindowSize
 

@@ -1,4 +1,4 @@
--- The numbers that the statement takes from document 01, written here anew: no constant that the code is held against stands behind them. Definitions only.
+-- The numbers that the statement takes from document 01, and from document 02 where a request has changed one, written here anew: no constant that the code is held against stands behind them. Definitions only.
 use Prim.Native.Nat.{ℕ, _-_, _^_}
 
 -- ---- "Before any figure: the checks"
@@ -14,7 +14,7 @@ greatestFrame = 2 ^ 32 - 1
 abbrev pub greatestDelay : ℕ
 greatestDelay = 2 ^ 42
 
--- ---- "Capacity is clamped to 2 to 256", document 02; 32 by default
+-- ---- "Capacity is clamped to 2 to 256", document 02, W-202; 32 by default
 abbrev pub leastWindow : ℕ
 leastWindow = 2
 

@@ -1,4 +1,4 @@
--- The capacity of a delay window: document 02, "Capacity is clamped to 2 to 256, and the state rule follows". Definitions only.
+-- The capacity of a delay window: document 02, W-202, "Capacity is clamped to 2 to 256, and the state rule follows". Definitions only.
 use mathlib.Core.Path.{_≡_}
 use Prim.Native.Nat.{ℕ, _≤_}
 

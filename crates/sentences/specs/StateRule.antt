@@ -29,7 +29,7 @@ abbrev pub deadline : OptionU64 → Bool
 deadline option.None = true
 deadline (option.Some ms) = leb ms 281474976725655
 
--- "Capacity is clamped to 2 to 256, and the state rule follows": document 02; "live count at most capacity, first slot below it"
+-- "Capacity is clamped to 2 to 256, and the state rule follows": document 02, W-202; "live count at most capacity, first slot below it"
 abbrev pub window : OwdTrendDetector → Bool
 window w = leb least (w .capacity) && leb (w .capacity) greatest && leb (w .count) (w .capacity) && ltb (w .first) (w .capacity)
 

@@ -210,7 +210,6 @@ pub fn lawless() -> [Ring; 10] {
 
 pub fn boundary_cases(rng: &mut Rng) -> Vec<Case> {
     let mut cases: Vec<Case> = requested_sizes().map(new).collect();
-    cases.extend(each_size(rng));
     for r in lawless() {
         cases.extend([push(&r, 1, 1), trend(&r), clear(&r), keeps_rule(&r), push(&r, 1, MAX_US + 1)]);
         cases.extend([push_unchecked(&r, 1, 1), clear_unchecked(&r)]);
@@ -251,6 +250,7 @@ pub fn boundary_cases(rng: &mut Rng) -> Vec<Case> {
     for r in [commits_widest(), with_widest_buffers(MAX_WINDOW)] {
         cases.extend([push(&r, 1, 1), trend(&r)]);
     }
+    cases.extend(each_size(rng));
     cases
 }
 
