@@ -59,6 +59,7 @@ fn main() {
     receiving::wrapped_timestamp();
     receiving::restart();
     receiving::saturated();
+    receiving::windows();
     receiving::large_window();
     receiving::wide_window();
     receiving::refused_frames();

@@ -178,21 +178,40 @@ pub fn saturated() {
     );
 }
 
+// A receiver's window by both constructors.
+fn window_of(name: &[u8], size: usize, capacity: u64) {
+    let new = ReceiverState::new(size);
+    let window = new.owd_trend;
+    number(name, window.capacity as u64, capacity);
+    let cold = ReceiverState::new_with_cold_start(size, 500);
+    let started = cold.state;
+    let same = started.owd_trend;
+    number(
+        b"the same with a cold start: capacity",
+        same.capacity as u64,
+        capacity,
+    );
+}
+
+// A size that is asked for is clamped to 2 to 256.
+pub fn windows() {
+    window_of(b"a receiver's window of 0: capacity", 0, 2);
+    window_of(b"a receiver's window of 1: capacity", 1, 2);
+    window_of(b"a receiver's window of 256: capacity", 256, 256);
+    window_of(b"a receiver's window of 257: capacity", 257, 256);
+    window_of(
+        b"a receiver's window of 2^64 - 1: capacity",
+        18446744073709551615,
+        256,
+    );
+}
+
 // A window that was asked for as 4,096 is one of 256: buffers of 4,096 are not its.
 pub fn large_window() {
+    window_of(b"a receiver's window of 4096: capacity", 4096, 256);
     let mut times = [0u32; 4096];
     let mut delays = [0i64; 4096];
     let s = ReceiverState::new(4096);
-    let asked = s.owd_trend;
-    number(b"a window of 4096: capacity", asked.capacity as u64, 256);
-    let cold = ReceiverState::new_with_cold_start(4096, 500);
-    let started = cold.state;
-    let window = started.owd_trend;
-    number(
-        b"the same with a cold start: capacity",
-        window.capacity as u64,
-        256,
-    );
     let frame = s.record_recv(&mut times, &mut delays, 0, 0, 100, false, 0);
     number(b"a frame with buffers of 4096", frame.refusal as u64, 4);
     let report = s.build_report(&times, &delays, 0);
