@@ -16,6 +16,7 @@ pub mod SeenAside
 pub mod NoCreepHolds
 pub mod RekeySaid
 pub mod LogSaid
+pub mod WideRefused
 pub mod ExampleComputed
 pub mod SenderRows
 pub mod ReceiverRows

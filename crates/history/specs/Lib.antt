@@ -12,5 +12,6 @@ pub mod Ends
 pub mod Asked
 pub mod Rekey
 pub mod LogEntry
+pub mod WideWindow
 pub mod NoCreep
 pub mod Example

@@ -1,25 +1,21 @@
 -- THE CAPACITY of a new window is the requested size, clamped; and a window that is wider than that is refused by 1, whatever is lent beside it.
 use mathlib.Core.Path.{_≡_, refl}
-use mathlib.Core.Bool.{Bool, true, false}
+use mathlib.Core.Bool.{true, false}
 use mathlib.Core.List.{List}
 use Prim.Native.Nat.{ℕ, _<_}
 use native.Mathlib.Omega.{arith}
 use lib.IntN.{ℤ}
+use borrow.Author.Tests.{le-leb, lt-leb}
 use Rattle.refusals.specs.Questions.{firstNo}
 use Rattle.pace.specs.Updates.{coldStartRefusal}
 use Rattle.algorithms.specs.Owd as owd
 use Rattle.algorithms.specs.OwdTrend.{trendAnswer}
 use Rattle.algorithms.specs.declared.owd.OwdTrendDetector.{OwdTrendDetector}
-use Rattle.algorithms.proofs.OwdRuleKept.{rule}
 use Rattle.samples.specs.Delay.{sampleRefusal}
 use Rattle.samples.specs.declared.delay.OwdReference.{OwdReference}
 use Rattle.receiver.specs.State as receiver
-use Rattle.receiver.specs.Frames.{frameRefusal}
-use Rattle.receiver.specs.Reports.{reportRefusal}
-use Rattle.receiver.specs.declared.ReceiverState.{ReceiverState}
-use Rattle.receiver.proofs.QuestionsAnswered.{kept}
 use Rattle.sentences.specs.Checks.{clock}
-use Rattle.sentences.specs.Capacity.{greatest, Clamped}
+use Rattle.sentences.specs.Capacity.{least, greatest, Clamped}
 
 -- ---- a requested size
 pub detector-clamped : (n : ℕ) → Clamped n (owd.newOf n .capacity)
@@ -33,14 +29,11 @@ pub cold-start-clamped : (n ms : ℕ) → clock ms ≡ true → Clamped n (recei
 unfolding receiver.newOf coldStartRefusal firstNo
 cold-start-clamped n ms e = rw e (detector-clamped n)
 
--- ---- a window wider than the greatest: 1, which is asked before the buffers' lengths are looked at
-refuted : (b : Bool) → (b ≡ true → ⊥) → b ≡ false
-refuted true h = absurd (h refl)
-refuted false h = refl
-
+-- ---- a window wider than the greatest: 1, which is asked before the buffers' lengths are looked at. Of a receiver it is said in history, over all its calls
 module _ (w : OwdTrendDetector) (wide : greatest < w .capacity) where
   pub wide-lawless : owd.keepsRule w ≡ false
-  wide-lawless = refuted (owd.keepsRule w) (λ k. let r = rule w k in omega (arith, r .most, wide))
+  unfolding owd.keepsRule
+  wide-lawless = rw (le-leb least (w .capacity) (omega (arith, wide)), lt-leb (w .capacity) greatest wide) refl
 
   pub wide-push : (times : List ℕ) (delays : List ℤ) (us : ℤ) → owd.pushRefusal w times delays us ≡ 1
   unfolding owd.pushRefusal firstNo
@@ -50,18 +43,10 @@ module _ (w : OwdTrendDetector) (wide : greatest < w .capacity) where
   unfolding trendAnswer firstNo
   wide-trend times delays = rw wide-lawless refl
 
+  pub wide-clear : owd.clearAnswer w .refusal ≡ 1
+  unfolding owd.clearAnswer firstNo
+  wide-clear = rw wide-lawless refl
+
   pub wide-sample : (r : OwdReference) (times : List ℕ) (delays : List ℤ) (timestamp now : ℕ) → sampleRefusal w r times delays timestamp now ≡ 1
   unfolding sampleRefusal firstNo
   wide-sample r times delays timestamp now = rw wide-lawless refl
-
-module _ (s : ReceiverState) (wide : greatest < s .«owd_trend» .capacity) where
-  pub receiver-lawless : receiver.keepsRule s ≡ false
-  receiver-lawless = refuted (receiver.keepsRule s) (λ k. let r = rule (s .«owd_trend») (kept s k .window) in omega (arith, r .most, wide))
-
-  pub wide-frame : (times : List ℕ) (delays : List ℤ) (counter timestamp bytes now : ℕ) (sampled : Bool) → frameRefusal s times delays counter timestamp bytes now sampled ≡ 1
-  unfolding frameRefusal firstNo
-  wide-frame times delays counter timestamp bytes now sampled = rw receiver-lawless refl
-
-  pub wide-report : (times : List ℕ) (delays : List ℤ) (now : ℕ) → reportRefusal s times delays now ≡ 1
-  unfolding reportRefusal firstNo
-  wide-report times delays now = rw receiver-lawless refl
