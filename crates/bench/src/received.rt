@@ -107,6 +107,7 @@ fn state_of(s: &[u64], from: usize, x: u64) -> ReceiverState {
         report_interval_ms: at(s, from, 27),
         interval_has_data: is_set(s, from, 28),
         srtt_sample_count: word_at(s, from, 29),
+        interval_max_lateness: at(s, from, 31),
     }
 }
 
@@ -134,7 +135,8 @@ fn state_sum(r: ReceiverState) -> u64 {
     let counts = r.cumulative_packets_recv
         ^ r.cumulative_bytes_recv
         ^ r.cumulative_reorder_count
-        ^ r.highest_counter;
+        ^ r.highest_counter
+        ^ r.interval_max_lateness;
     let words = r.interval_packets_recv
         ^ r.interval_bytes_recv
         ^ r.ecn_ce_count

@@ -10,7 +10,7 @@ use Rattle.refusals.proofs.Clauses.{either, or}
 use Rattle.refusals.proofs.PickedByTest.{picked}
 use Rattle.refusals.specs.declared.option.OptionU64.{OptionU64}
 use Rattle.refusals.specs.declared.option.OptionU64.the-variants.{None, Some}
-use Rattle.gaps.specs.Gaps.{maxLength, maxCounter, finishedBursts, keepsRule, fresh, gapAt, beginsBurst, burstsOk, nextAfter, expecting, burstRecorded, burstFinished, gapCounted, gapObserved, observedAfter, observed}
+use Rattle.gaps.specs.Gaps.{maxLength, maxCounter, finishedBursts, keepsRule, fresh, gapAt, beginsBurst, burstsOk, nextAfter, expecting, burstRecorded, burstFinished, gapCounted, gapObserved, trackedAfter, observed}
 use Rattle.gaps.specs.Stats.{statsOf}
 use Rattle.gaps.specs.declared.GapTracker.{GapTracker}
 
@@ -102,7 +102,7 @@ pub observed-keeps-rule : (t : GapTracker) (counter : ℕ) → keepsRule t ≡ t
 unfolding observed
 observed-keeps-rule t counter h f b = keeps _ (go (t .«expected_next») (room-asked t counter b))
   where
-    go : (due : OptionU64) → (t .«in_burst» ≡ false → 1 ≤ gapAt due counter → t .«burst_count» + 1 < 2 ^ 32) → Kept (observedAfter due t counter .tracker)
+    go : (due : OptionU64) → (t .«in_burst» ≡ false → 1 ≤ gapAt due counter → t .«burst_count» + 1 < 2 ^ 32) → Kept (trackedAfter due t counter)
     go None room = expecting-kept t (min (counter + 1) maxCounter) (kept t h)
     go (Some expected) room = expecting-kept (gapObserved t (counter - expected)) (nextAfter expected counter) (gap-observed-kept t (counter - expected) (kept t h) f room)
 
@@ -123,7 +123,7 @@ pub observed-fits : (t : GapTracker) (counter : ℕ) → Fits t → Fits (observ
 unfolding observed
 observed-fits t counter f = go (t .«expected_next»)
   where
-    go : (due : OptionU64) → Fits (observedAfter due t counter .tracker)
+    go : (due : OptionU64) → Fits (trackedAfter due t counter)
     go None = f
     go (Some expected) = gap-observed-fits t (counter - expected) f
 

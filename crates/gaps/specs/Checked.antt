@@ -6,6 +6,7 @@ use lib.Dec.{eqb}
 use Rattle.refusals.specs.Questions.{question, firstNo}
 use Rattle.gaps.specs.Gaps.{keepsRule, burstsOk, burstFinished, observed}
 use Rattle.gaps.specs.Stats.{statsOf}
+use Rattle.gaps.specs.declared.Arrival.the-variants.{First}
 use Rattle.gaps.specs.declared.GapTracker.{GapTracker}
 use Rattle.gaps.specs.declared.checked.GapObserved.{GapObserved}
 use Rattle.gaps.specs.declared.checked.GapUpdate.{GapUpdate}
@@ -19,9 +20,9 @@ refusalOf t = firstNo (question 1 (keepsRule t) ∷ [])
 unfoldable pub observeRefusal : GapTracker → ℕ → ℕ
 observeRefusal t counter = firstNo (question 1 (keepsRule t) ∷ question 10 (burstsOk t counter) ∷ [])
 
--- a frame whose refusal is n: the frames lost and the tracker after it; 0 and the tracker as given on a refusal
+-- a frame whose refusal is n: where it stands and the tracker after it; `First`, the case before all others, and the tracker as given on a refusal
 abbrev pub observedBy : ℕ → GapTracker → ℕ → GapObserved
-observedBy n t counter = record { refusal = n; lost = cond (eqb n 0) (observed t counter .lost) 0; tracker = cond (eqb n 0) (observed t counter .tracker) t }
+observedBy n t counter = record { refusal = n; arrival = cond (eqb n 0) (observed t counter .arrival) First; tracker = cond (eqb n 0) (observed t counter .tracker) t }
 
 unfoldable pub observeOf : GapTracker → ℕ → GapObserved
 observeOf t counter = observedBy (observeRefusal t counter) t counter

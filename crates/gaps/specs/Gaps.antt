@@ -1,11 +1,13 @@
--- Gaps in the counters as bursts of lost frames: document 01, "Jitter, delay trend and bursts", document 02, W-201, and receiver.rs, `GapTracker`.
+-- Gaps in the counters as bursts of lost frames: document 01, "Jitter, delay trend and bursts", document 02, W-201 and W-203, and receiver.rs, `GapTracker`.
 -- Definitions only.
 use mathlib.Core.Bool.{Bool, true, false, cond, not, _&&_, _||_}
 use Prim.Native.Nat.{ℕ, _+_, _-_, _*_, _^_, min, max}
-use lib.Dec.{leb, eqb}
+use lib.Dec.{leb, ltb, eqb}
 use Rattle.refusals.specs.Ranges.{counterOk}
 use Rattle.refusals.specs.declared.option.OptionU64.{OptionU64}
 use Rattle.refusals.specs.declared.option.OptionU64.the-variants.{None, Some}
+use Rattle.gaps.specs.declared.Arrival.{Arrival}
+use Rattle.gaps.specs.declared.Arrival.the-variants.{First, InSequence, Gap, Behind}
 use Rattle.gaps.specs.declared.GapTracker.{GapTracker}
 use Rattle.gaps.specs.declared.Observed.{Observed}
 
@@ -56,6 +58,23 @@ burstsOk t counter = not (beginsBurst t counter) || counterOk 32 (t .«burst_cou
 -- the counter that is due after a frame: one more, and after a late frame the one that was due
 unfoldable pub nextAfter : ℕ → ℕ → ℕ
 nextAfter expected counter = cond (leb expected counter) (min (counter + 1) maxCounter) expected
+
+-- ---- where a frame stands: document 02, W-203, "first, in sequence, a gap of n, or behind by n"
+-- after another; "where n is expected minus counter"
+unfoldable pub arrivalAfter : ℕ → ℕ → Arrival
+arrivalAfter expected counter = cond (ltb expected counter) (Gap (counter - expected)) (cond (ltb counter expected) (Behind (expected - counter)) InSequence)
+
+-- beside the counter that was due, if one was
+abbrev pub arrivalAt : OptionU64 → ℕ → Arrival
+arrivalAt None counter = First
+arrivalAt (Some expected) counter = arrivalAfter expected counter
+
+-- "the commit's number from `observe` is n for a gap and 0 for the other three"
+abbrev pub lostBefore : Arrival → ℕ
+lostBefore First = 0
+lostBefore InSequence = 0
+lostBefore (Gap n) = n
+lostBefore (Behind n) = 0
 
 -- ---- a frame
 -- this counter is due next
@@ -112,11 +131,11 @@ gapCounted t gap =
 unfoldable pub gapObserved : GapTracker → ℕ → GapTracker
 gapObserved t gap = cond (eqb gap 0) (burstFinished t) (gapCounted t gap)
 
--- a frame of this counter after one that made `due` due
-abbrev pub observedAfter : OptionU64 → GapTracker → ℕ → Observed
-observedAfter None t counter = record { lost = 0; tracker = expecting t (min (counter + 1) maxCounter) }
-observedAfter (Some expected) t counter = record { lost = counter - expected; tracker = expecting (gapObserved t (counter - expected)) (nextAfter expected counter) }
+-- the tracker after a frame of this counter, beside the one that was due
+abbrev pub trackedAfter : OptionU64 → GapTracker → ℕ → GapTracker
+trackedAfter None t counter = expecting t (min (counter + 1) maxCounter)
+trackedAfter (Some expected) t counter = expecting (gapObserved t (counter - expected)) (nextAfter expected counter)
 
 -- a frame of this counter
 unfoldable pub observed : GapTracker → ℕ → Observed
-observed t counter = observedAfter (t .«expected_next») t counter
+observed t counter = record { arrival = arrivalAt (t .«expected_next») counter; tracker = trackedAfter (t .«expected_next») t counter }

@@ -2,13 +2,14 @@
 
 ghost use mathlib.Core.Path.{_≡_};
 ghost use Rattle.gaps.specs.Checked.{refusalOf, observeOf, finishOf, takeOf};
+use crate::Arrival;
 use crate::GapTracker;
 use refusals::questions::Questions;
 
-// The frames lost before the one observed, 0 beside a refusal, and the tracker after it.
+// Where the frame observed stands, `First` beside a refusal, and the tracker after it.
 pub struct GapObserved {
     pub refusal: u8,
-    pub lost: u64,
+    pub arrival: Arrival,
     pub tracker: GapTracker,
 }
 
@@ -47,16 +48,18 @@ impl GapTracker {
         let refusal = q.first_no();
         if refusal == 0 {
             let seen = self.observe_unchecked(counter);
+            let arrival = seen.arrival;
             let tracker = seen.tracker;
             GapObserved {
                 refusal,
-                lost: seen.lost,
+                arrival,
                 tracker,
             }
         } else {
+            let arrival = Arrival::First;
             GapObserved {
                 refusal,
-                lost: 0,
+                arrival,
                 tracker: self,
             }
         }

@@ -3,7 +3,7 @@
 pub mod checked; // checked.rt: the calls behind their questions
 
 ghost use mathlib.Core.Path.{_≡_};
-ghost use Rattle.gaps.specs.Gaps.{keepsRule, finishedBursts, fresh, gapAt, beginsBurst, burstsOk, expecting, nextAfter, burstFinished, gapLength, gapCounted, gapObserved, observed};
+ghost use Rattle.gaps.specs.Gaps.{keepsRule, finishedBursts, fresh, gapAt, beginsBurst, burstsOk, expecting, nextAfter, arrivalAfter, lostBefore, burstFinished, gapLength, gapCounted, gapObserved, observed};
 ghost use Rattle.gaps.specs.Stats.{meanBurst, statsOf};
 use numbers::methods::max_u16;
 use numbers::methods::saturating_add_u16;
@@ -33,9 +33,20 @@ pub struct GapTracker {
     pub total_burst_len: u64,
 }
 
-// The frames lost before the one observed, and the tracker after it.
+// Where a frame's counter stands beside the one that was due.
+pub enum Arrival {
+    // No frame came before, so none was due.
+    First,
+    InSequence,
+    // So many frames are missing before it.
+    Gap(u64),
+    // So far below: expected minus counter.
+    Behind(u64),
+}
+
+// Where the frame observed stands, and the tracker after it.
 pub struct Observed {
-    pub lost: u64,
+    pub arrival: Arrival,
     pub tracker: GapTracker,
 }
 
@@ -56,6 +67,31 @@ fn gap_len(gap: u64) -> u16
     } else {
         MAX_BURST_LEN as u16
     }
+}
+
+// The frames lost before one that came so: what the Rust's `observe` answers.
+pub fn lost_before(arrival: Arrival) -> u64
+    ensures { λ r. ⌜ r ≡ lostBefore arrival ⌝ }
+{
+    match arrival {
+        Arrival::First => 0,
+        Arrival::InSequence => 0,
+        Arrival::Gap(missing) => missing,
+        Arrival::Behind(_late) => 0,
+    }
+}
+
+// Where a counter stands beside the one that is due.
+fn arrival_after(expected: u64, counter: u64) -> Arrival
+    ensures { λ r. ⌜ r ≡ arrivalAfter expected counter ⌝ }
+{
+    if expected < counter {
+        return Arrival::Gap(counter - expected);
+    }
+    if counter < expected {
+        return Arrival::Behind(expected - counter);
+    }
+    Arrival::InSequence
 }
 
 // The counter that is due after this one, or the one that was due where the frame is late.
@@ -206,14 +242,16 @@ impl GapTracker {
         let expected_next = self.expected_next;
         match expected_next {
             OptionU64::None => {
+                let arrival = Arrival::First;
                 let tracker = self.expecting(saturating_add_u64(counter, 1));
-                Observed { lost: 0, tracker }
+                Observed { arrival, tracker }
             }
             OptionU64::Some(expected) => {
+                let arrival = arrival_after(expected, counter);
                 let lost = saturating_sub_u64(counter, expected);
                 let next = next_after(expected, counter);
                 let tracker = self.observe_gap(lost).expecting(next);
-                Observed { lost, tracker }
+                Observed { arrival, tracker }
             }
         }
     }

@@ -1,4 +1,4 @@
--- A frame is received: document 01, "Jitter, delay trend and bursts", and receiver.rs, `record_frame`. Definitions only.
+-- A frame is received: document 01, "Jitter, delay trend and bursts", document 02, W-203, and receiver.rs, `record_frame`. Definitions only.
 use mathlib.Core.Bool.{Bool, true, cond, not, _&&_, _||_}
 use mathlib.Core.List.{List, [], _∷_}
 use Prim.Native.Nat.{ℕ, _+_, _-_, _^_, _<_, min, max}
@@ -13,6 +13,8 @@ use Rattle.algorithms.specs.Owd.{windowsOk, free}
 use Rattle.algorithms.specs.declared.jitter.JitterEstimator.{JitterEstimator}
 use Rattle.algorithms.specs.declared.owd.OwdTrendDetector.{OwdTrendDetector}
 use Rattle.gaps.specs.Gaps.{burstsOk, observed}
+use Rattle.gaps.specs.declared.Arrival.{Arrival}
+use Rattle.gaps.specs.declared.Arrival.the-variants.{First, InSequence, Gap, Behind}
 use Rattle.samples.specs.Transit.{inGrace, jitterAfter}
 use Rattle.samples.specs.Delay.{referenceAfter, ageOf, delayOf, windowFor, pushed}
 use Rattle.samples.specs.declared.delay.OwdReference.{OwdReference}
@@ -28,6 +30,13 @@ reordersAfter reorders highest counter = cond (ltb counter highest) (reorders + 
 -- ECN: one more for a frame marked CE, as far as 32 bits go
 unfoldable pub markedAfter : ℕ → Bool → ℕ
 markedAfter count ce = cond ce (min (count + 1) (2 ^ 32 - 1)) count
+
+-- document 02, W-203, "the greatest lateness of the interval": a frame behind by n raises it to n; no other does
+abbrev pub latenessAfter : ℕ → Arrival → ℕ
+latenessAfter greatest (Behind n) = max greatest n
+latenessAfter greatest First = greatest
+latenessAfter greatest InSequence = greatest
+latenessAfter greatest (Gap n) = greatest
 
 -- every frame is counted, in the lifetime exactly and in the interval as far as 32 bits go
 unfoldable pub counted : ReceiverState → ℕ → ℕ → Bool → ReceiverState
@@ -51,6 +60,7 @@ counted s counter bytes ce =
       «report_interval_ms» = s .«report_interval_ms»;
       «interval_has_data» = true;
       «srtt_sample_count» = s .«srtt_sample_count»;
+      «interval_max_lateness» = latenessAfter (s .«interval_max_lateness») (observed (s .«gap_tracker») counter .arrival);
     }
 
 -- what the sums leave room for
@@ -86,6 +96,7 @@ withTiming s jitter window ref deadline timestamp now =
       «report_interval_ms» = s .«report_interval_ms»;
       «interval_has_data» = s .«interval_has_data»;
       «srtt_sample_count» = s .«srtt_sample_count»;
+      «interval_max_lateness» = s .«interval_max_lateness»;
     }
 
 -- a sample out of grace: jitter, trend, the reference that it was measured from, and no grace any more

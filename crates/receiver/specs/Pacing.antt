@@ -37,6 +37,7 @@ withPace s p =
         «report_interval_ms» = p .«report_interval_ms»;
         «interval_has_data» = s .«interval_has_data»;
         «srtt_sample_count» = p .«srtt_sample_count»;
+        «interval_max_lateness» = s .«interval_max_lateness»;
       };
     }
 

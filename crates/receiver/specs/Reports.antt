@@ -45,7 +45,7 @@ reportOf s stats trend now =
       «interval_bytes_recv» = s .«interval_bytes_recv»;
     }
 
--- a report at this time ends the interval
+-- a report at this time ends the interval; document 02, W-203: the lateness is "zeroed when a report is made"
 abbrev pub reported : ReceiverState → GapTracker → ℕ → ReceiverState
 reported s tracker now =
     record {
@@ -67,6 +67,7 @@ reported s tracker now =
       «report_interval_ms» = s .«report_interval_ms»;
       «interval_has_data» = false;
       «srtt_sample_count» = s .«srtt_sample_count»;
+      «interval_max_lateness» = 0;
     }
 
 -- no report: a refusal, or "No report for want of data is a plain answer"

@@ -71,6 +71,7 @@ startedAt window ms =
       «report_interval_ms» = ms;
       «interval_has_data» = false;
       «srtt_sample_count» = 0;
+      «interval_max_lateness» = 0;
     }
 
 -- a window of the caller's, and the cold-start interval of limits.rs
@@ -120,6 +121,7 @@ rekeyed s deadline =
       «report_interval_ms» = s .«report_interval_ms»;
       «interval_has_data» = false;
       «srtt_sample_count» = s .«srtt_sample_count»;
+      «interval_max_lateness» = 0;
     }
 
 -- "the rekey deadline (rekey time + 15,000)"
@@ -147,3 +149,7 @@ lastRecvOf s = answerOptionU64 (refusalOf s) (s .«last_recv_ms»)
 
 abbrev pub ecnOf : ReceiverState → AnswerU32
 ecnOf s = answerU32 (refusalOf s) (s .«ecn_ce_count»)
+
+-- document 02, W-203: "The receiver keeps the greatest lateness of the interval .. and offers it through an accessor"
+abbrev pub latenessOf : ReceiverState → AnswerU64
+latenessOf s = answerU64 (refusalOf s) (s .«interval_max_lateness»)

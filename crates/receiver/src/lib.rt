@@ -6,7 +6,7 @@ pub mod pacing; // pacing.rt: the report interval, and when a report is due
 
 ghost use mathlib.Core.Path.{_≡_};
 ghost use Rattle.refusals.specs.Answers.{answerU64};
-ghost use Rattle.receiver.specs.State.{graceOk, keepsRule, refusalOf, startedAt, withWindow, fresh, newOf, rekeyed, rekeyOf, packetsOf, bytesOf, highestOf, jitterOf, intervalOf, lastRecvOf, ecnOf};
+ghost use Rattle.receiver.specs.State.{graceOk, keepsRule, refusalOf, startedAt, withWindow, fresh, newOf, rekeyed, rekeyOf, packetsOf, bytesOf, highestOf, jitterOf, intervalOf, lastRecvOf, ecnOf, latenessOf};
 use algorithms::jitter::JitterEstimator;
 use algorithms::owd::OwdTrendDetector;
 use gaps::GapTracker;
@@ -64,6 +64,9 @@ pub struct ReceiverState {
     // --- Cold-start tracking ---
     // Number of SRTT-based interval updates received.
     pub srtt_sample_count: u32,
+    // --- Lateness ---
+    // How far behind, at most, a frame has come since the last report or rekey: expected minus counter.
+    pub interval_max_lateness: u64,
 }
 
 // A new state, the default one on a refusal.
@@ -119,6 +122,7 @@ impl ReceiverState {
             report_interval_ms,
             interval_has_data: false,
             srtt_sample_count: 0,
+            interval_max_lateness: 0,
         }
     }
 
@@ -205,6 +209,7 @@ impl ReceiverState {
             report_interval_ms: self.report_interval_ms,
             interval_has_data: false,
             srtt_sample_count: self.srtt_sample_count,
+            interval_max_lateness: 0,
         }
     }
 
@@ -278,5 +283,12 @@ impl ReceiverState {
         ensures { λ r. ⌜ r ≡ ecnOf self ⌝ }
     {
         AnswerU32::of(self.refusal(), self.ecn_ce_count)
+    }
+
+    // How far behind, at most, a frame of this interval has come.
+    pub fn interval_max_lateness(self) -> AnswerU64
+        ensures { λ r. ⌜ r ≡ latenessOf self ⌝ }
+    {
+        self.answer_u64(self.interval_max_lateness)
     }
 }

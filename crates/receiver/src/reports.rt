@@ -89,6 +89,7 @@ impl ReceiverState {
             report_interval_ms: self.report_interval_ms,
             interval_has_data: false,
             srtt_sample_count: self.srtt_sample_count,
+            interval_max_lateness: 0,
         }
     }
 

@@ -53,9 +53,9 @@ fn reply_of(given: &[u64]) -> Reply {
         341..=344 => etx_calls::answer(given),
         351..=357 => spin_calls::answer(given),
         401..=417 => sender_calls::answer(given),
-        451..=458 | 471..=473 => gap_calls::answer(given),
+        451..=459 | 471..=473 => gap_calls::answer(given),
         461..=465 => sample_calls::answer(given),
-        501..=518 => receiver_calls::answer(given),
+        501..=519 => receiver_calls::answer(given),
         601..=619 => metrics_calls::answer(given),
         _ => figure_calls::answer(given),
     }

@@ -4,6 +4,7 @@
 //   5         an optional number: 0 and 0, or 1 and the number
 //   6         a reference: 0, 0 and 0, or 1, its receive time and its timestamp
 //   7         an optional number of four bytes
+//   9         an arrival: 0 or 1 and 0, or 2 or 3 and its number
 //   a         the 64-bit pattern of an i32
 //   b         a buffer: its length, at most 1,024, and its bytes
 //   c d       a window: its length, at most 4,100, and its times (c) or its delays (d)
@@ -39,20 +40,25 @@ fn number_fits(kind: u64, x: u64) -> bool {
     }
 }
 
-// The place after the optional number at `at`; `at` itself where there is none.
-fn after_optional(given: &[u64], at: usize) -> usize {
+// The place after the case at `at` and its number, of so many cases; `at` itself where there is none. The first ones are plain: their number is 0.
+fn after_case(given: &[u64], at: usize, plain: u64, cases: u64) -> usize {
     if at >= given.len() {
         return at;
     }
     if given.len() - at < 2 {
         return at;
     }
-    let flag = u64_of(given, at);
-    let absent = (flag == 0) & (u64_of(given, at + 1) == 0);
-    if absent | (flag == 1) {
+    let case = u64_of(given, at);
+    let bare = u64_of(given, at + 1) == 0;
+    if (case < cases) & (bare | (plain <= case)) {
         return at + 2;
     }
     at
+}
+
+// The place after the optional number at `at`; `at` itself where there is none.
+fn after_optional(given: &[u64], at: usize) -> usize {
+    after_case(given, at, 1, 2)
 }
 
 // The place after the optional number of four bytes at `at`; `at` itself where there is none.
@@ -109,6 +115,7 @@ fn after(given: &[u64], at: usize, kind: u64) -> usize {
         5 => after_optional(given, at),
         6 => after_reference(given, at),
         7 => after_optional_u32(given, at),
+        9 => after_case(given, at, 2, 4),
         0xb => after_table(given, at, 1024, 255),
         0xc => after_table(given, at, 4100, u32::MAX as u64),
         0xd => after_table(given, at, 4100, u64::MAX),
@@ -183,7 +190,7 @@ fn record_of(call: u64) -> u64 {
     match call {
         404..=416 => 0x8884484338844,
         452..=457 | 471..=473 => 0x532428,
-        504..=518 => 0x88884488886,
+        504..=519 => 0x88884488886,
         603..=619 => 0x883883883883883,
         631 => 0x88844,
         _ => 0,
@@ -193,7 +200,7 @@ fn record_of(call: u64) -> u64 {
 // The fields that are left of a receiver; of metrics, up to the report kept.
 fn record_after(call: u64) -> u64 {
     match call {
-        504..=518 => 0x53242844555834,
+        504..=519 => 0x532428445558348,
         603..=619 => 0x88388888884453,
         _ => 0,
     }
@@ -255,12 +262,13 @@ fn shape_of_figure(call: u64) -> u64 {
 // What a call on a state, or on a part of one, takes beside its record.
 fn shape_of_state(call: u64) -> u64 {
     match call {
-        401 | 402 | 407..=409 | 412..=416 | 451 | 453..=455 | 472 | 473 | 502 | 511..=518 => 0,
+        401 | 402 | 407..=409 | 412..=416 | 451 | 453..=455 | 472 | 473 | 502 | 511..=519 => 0,
         403 | 405 | 406 | 410 | 452 | 456 | 457 | 471 | 501 | 506 | 508 | 509 => 8,
         404 => 0x848,
         411 | 510 => 0x888,
         417 => 4,
         458 => 0x84,
+        459 => 9,
         461 => 0x58,
         462 => 0x85448,
         463 => 6,

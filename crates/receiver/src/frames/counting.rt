@@ -2,8 +2,9 @@
 
 ghost use mathlib.Core.Path.{_≡_};
 ghost use Prim.Native.Nat.{_+_, _<_, _^_};
-ghost use Rattle.receiver.specs.Frames.{Room, reordersAfter, markedAfter, counted, countersOk};
+ghost use Rattle.receiver.specs.Frames.{Room, reordersAfter, markedAfter, latenessAfter, counted, countersOk};
 use crate::ReceiverState;
+use gaps::Arrival;
 use numbers::methods::max_u64;
 use numbers::methods::saturating_add_u32;
 use refusals::ranges::counter_u64_ok;
@@ -31,14 +32,27 @@ fn marked_after(count: u32, ce_flag: bool) -> u32
     }
 }
 
+// The greater lateness, where the frame is behind.
+fn lateness_after(greatest: u64, arrival: Arrival) -> u64
+    ensures { λ r. ⌜ r ≡ latenessAfter greatest arrival ⌝ }
+{
+    match arrival {
+        Arrival::First => greatest,
+        Arrival::InSequence => greatest,
+        Arrival::Gap(_missing) => greatest,
+        Arrival::Behind(late) => max_u64(greatest, late),
+    }
+}
+
 impl ReceiverState {
-    // Interval and cumulative counts, reordering, loss bursts and ECN.
+    // Interval and cumulative counts, reordering, loss bursts, lateness and ECN.
     pub(crate) fn count(self, counter: u64, bytes: u32, ce_flag: bool) -> ReceiverState
         requires { ⌜ Room self bytes ⌝ }
         ensures { λ r. ⌜ r ≡ counted self counter bytes «ce_flag» ⌝ }
     {
         let reorders = reorders_after(self.cumulative_reorder_count, self.highest_counter, counter);
         let seen = self.gap_tracker.observe_unchecked(counter);
+        let arrival = seen.arrival;
         let gap_tracker = seen.tracker;
         let mut state = self;
         state.interval_has_data = true;
@@ -50,6 +64,7 @@ impl ReceiverState {
         state.highest_counter = max_u64(self.highest_counter, counter);
         state.gap_tracker = gap_tracker;
         state.ecn_ce_count = marked_after(self.ecn_ce_count, ce_flag);
+        state.interval_max_lateness = lateness_after(self.interval_max_lateness, arrival);
         state
     }
 

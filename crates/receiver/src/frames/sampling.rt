@@ -48,6 +48,7 @@ impl ReceiverState {
             report_interval_ms: self.report_interval_ms,
             interval_has_data: self.interval_has_data,
             srtt_sample_count: self.srtt_sample_count,
+            interval_max_lateness: self.interval_max_lateness,
         }
     }
 

@@ -1,4 +1,4 @@
-// Calls 451 to 458 and 471 to 473: `GapTracker`.
+// Calls 451 to 459 and 471 to 473: `GapTracker`.
 use crate::reply::Reply;
 use crate::reply::one;
 use crate::reply::refusal;
@@ -11,12 +11,14 @@ use crate::tables::u32_of;
 use crate::tables::u64_of;
 use crate::tables::wide_u16;
 use crate::tables::wide_u32;
+use gaps::Arrival;
 use gaps::GapTracker;
 use gaps::IntervalStats;
 use gaps::Observed;
 use gaps::checked::GapObserved;
 use gaps::checked::GapStats;
 use gaps::checked::GapUpdate;
+use gaps::lost_before;
 use gaps::mean_burst;
 
 pub fn answer(given: &[u64]) -> Reply {
@@ -29,6 +31,7 @@ pub fn answer(given: &[u64]) -> Reply {
         455 => one(flag(t.keeps_rule())),
         456 => one(flag(t.begins_burst(u64_of(given, 8)))),
         457 => one(flag(t.bursts_ok(u64_of(given, 8)))),
+        459 => one(lost_before(arrival_of(given))),
         471 => of_gap_observed(t.observe(u64_of(given, 8))),
         472 => of_gap_stats(t.take_interval_stats()),
         473 => of_gap_update(t.finish_burst()),
@@ -61,9 +64,31 @@ pub fn and_tracker(reply: Reply, t: GapTracker) -> Reply {
         .and(t.total_burst_len)
 }
 
+// The case with this number, and its frames: those of a gap, or how far behind.
+fn arrival_of(given: &[u64]) -> Arrival {
+    match u64_of(given, 1) {
+        1 => Arrival::InSequence,
+        2 => Arrival::Gap(u64_of(given, 2)),
+        3 => Arrival::Behind(u64_of(given, 2)),
+        _ => Arrival::First,
+    }
+}
+
+// The commit's number, then the case and its frames.
+fn and_arrival(reply: Reply, arrival: Arrival) -> Reply {
+    let lost = reply.and(lost_before(arrival));
+    match arrival {
+        Arrival::First => lost.and(0).and(0),
+        Arrival::InSequence => lost.and(1).and(0),
+        Arrival::Gap(missing) => lost.and(2).and(missing),
+        Arrival::Behind(late) => lost.and(3).and(late),
+    }
+}
+
 fn of_observed(o: Observed) -> Reply {
+    let arrival = o.arrival;
     let t = o.tracker;
-    and_tracker(one(o.lost), t)
+    and_tracker(and_arrival(Reply::new(), arrival), t)
 }
 
 fn of_stats(s: IntervalStats) -> Reply {
@@ -73,8 +98,9 @@ fn of_stats(s: IntervalStats) -> Reply {
 }
 
 fn of_gap_observed(o: GapObserved) -> Reply {
+    let arrival = o.arrival;
     let t = o.tracker;
-    and_tracker(refusal(o.refusal).and(o.lost), t)
+    and_tracker(and_arrival(refusal(o.refusal), arrival), t)
 }
 
 fn of_gap_stats(s: GapStats) -> Reply {

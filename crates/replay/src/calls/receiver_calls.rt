@@ -1,4 +1,4 @@
-// Calls 501 to 518: `ReceiverState`.
+// Calls 501 to 519: `ReceiverState`.
 use crate::calls::gap_calls::and_tracker;
 use crate::calls::gap_calls::tracker_of;
 use crate::calls::owd_calls::and_detector;
@@ -41,7 +41,7 @@ pub fn answer(given: &[u64]) -> Reply {
 // The calls that answer a value alone.
 fn of_value(given: &[u64], s: ReceiverState) -> Reply {
     match u64_of(given, 0) {
-        508 => of_bool(s.should_send_report(u64_of(given, 32))),
+        508 => of_bool(s.should_send_report(u64_of(given, 33))),
         511 => of_u64(s.cumulative_packets_recv()),
         512 => of_u64(s.cumulative_bytes_recv()),
         513 => of_u64(s.highest_counter()),
@@ -49,6 +49,7 @@ fn of_value(given: &[u64], s: ReceiverState) -> Reply {
         515 => of_u64(s.report_interval_ms()),
         516 => of_optional_u64(s.last_recv_ms()),
         517 => of_u32(s.ecn_ce_count()),
+        519 => of_u64(s.interval_max_lateness()),
         _ => one(flag(s.keeps_rule())),
     }
 }
@@ -56,12 +57,12 @@ fn of_value(given: &[u64], s: ReceiverState) -> Reply {
 // The calls that answer the state after.
 fn of_call(given: &[u64], s: ReceiverState) -> Reply {
     match u64_of(given, 0) {
-        506 => of_update(s.reset_for_rekey(u64_of(given, 32))),
-        509 => of_update(s.update_report_interval_from_srtt(i64_of(given, 32))),
+        506 => of_update(s.reset_for_rekey(u64_of(given, 33))),
+        509 => of_update(s.update_report_interval_from_srtt(i64_of(given, 33))),
         _ => of_update(s.update_report_interval_with_bounds(
-            i64_of(given, 32),
-            u64_of(given, 33),
+            i64_of(given, 33),
             u64_of(given, 34),
+            u64_of(given, 35),
         )),
     }
 }
@@ -95,6 +96,7 @@ fn state_of(given: &[u64]) -> ReceiverState {
         report_interval_ms: u64_of(given, 29),
         interval_has_data: flag_of(given, 30),
         srtt_sample_count: u32_of(given, 31),
+        interval_max_lateness: u64_of(given, 32),
     }
 }
 
@@ -130,6 +132,7 @@ fn and_timing(reply: Reply, s: ReceiverState) -> Reply {
         .and(s.report_interval_ms)
         .and_bool(s.interval_has_data)
         .and_u32(s.srtt_sample_count)
+        .and(s.interval_max_lateness)
 }
 
 fn of_new(n: ReceiverNew) -> Reply {
@@ -156,12 +159,12 @@ pub fn record_frame(given: &[u64], times: &mut [u32], delays: &mut [i64]) -> Rep
     of_update(s.record_frame(
         times,
         delays,
-        u64_of(given, 32),
-        u32_of(given, 33),
-        usize_of(given, 34),
-        flag_of(given, 35),
-        u64_of(given, 36),
-        flag_of(given, 37),
+        u64_of(given, 33),
+        u32_of(given, 34),
+        usize_of(given, 35),
+        flag_of(given, 36),
+        u64_of(given, 37),
+        flag_of(given, 38),
     ))
 }
 
@@ -170,15 +173,15 @@ pub fn record_recv(given: &[u64], times: &mut [u32], delays: &mut [i64]) -> Repl
     of_update(s.record_recv(
         times,
         delays,
-        u64_of(given, 32),
-        u32_of(given, 33),
-        usize_of(given, 34),
-        flag_of(given, 35),
-        u64_of(given, 36),
+        u64_of(given, 33),
+        u32_of(given, 34),
+        usize_of(given, 35),
+        flag_of(given, 36),
+        u64_of(given, 37),
     ))
 }
 
 pub fn build_report(given: &[u64], times: &[u32], delays: &[i64]) -> Reply {
     let s = state_of(given);
-    of_built(s.build_report(times, delays, u64_of(given, 32)))
+    of_built(s.build_report(times, delays, u64_of(given, 33)))
 }
