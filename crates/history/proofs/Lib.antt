@@ -7,6 +7,7 @@ pub mod RoundTripsAgree
 pub mod RoundTripTied
 pub mod DifferencesAgree
 pub mod JitterTied
+pub mod LatenessTied
 pub mod RulesKept
 pub mod Asked
 pub mod SenderAsked

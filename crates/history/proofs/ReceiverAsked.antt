@@ -133,6 +133,7 @@ module _ (s : ReceiverState) (rule : keepsRule s ≡ true) (capacity : ℕ) (sam
   told-lawful ReceiverQuestion.«report_interval_ms» = asks-rule
   told-lawful ReceiverQuestion.«last_recv_ms» = asks-rule
   told-lawful ReceiverQuestion.«ecn_ce_count» = asks-rule
+  told-lawful ReceiverQuestion.«interval_max_lateness» = asks-rule
 
   frame-lawful : (f : Frame) (sampled : Bool) → Lawful (paper.frame capacity f) (frameRefusal s (f .times) (f .delays) (f .counter) (f .timestamp) (f .bytes) (f .now) sampled)
   unfolding firstNo frameRefusal

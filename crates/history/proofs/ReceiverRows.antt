@@ -23,6 +23,7 @@ use Rattle.receiver.proofs.ReceiverState.jitter_us.Reads as jitter-us
 use Rattle.receiver.proofs.ReceiverState.report_interval_ms.Reads as report-interval-ms
 use Rattle.receiver.proofs.ReceiverState.last_recv_ms.Reads as last-recv-ms
 use Rattle.receiver.proofs.ReceiverState.ecn_ce_count.Reads as ecn-ce-count
+use Rattle.receiver.proofs.ReceiverState.interval_max_lateness.Reads as interval-max-lateness
 use Rattle.receiver.specs.declared.ReceiverState.{ReceiverState}
 use Rattle.receiver.specs.declared.ReceiverUpdate.{ReceiverUpdate}
 use Rattle.receiver.specs.declared.reports.ReceiverReportBuilt.{ReceiverReportBuilt}
@@ -119,3 +120,7 @@ last-recv-ms-row κs a r s e = ap (λ x. staying (a .0) (told.optional-u64 x)) e
 pub ecn-ce-count-row : (κs : _) (a : _) (r : _) (s : _) → ecn-ce-count.Learnt κs a r s → staying (a .0) (told.u32 r) ≡ receiverStep (ReceiverCall.ask ReceiverQuestion.«ecn_ce_count») (a .0)
 unfolding receiverStep receiverTold
 ecn-ce-count-row κs a r s e = ap (λ x. staying (a .0) (told.u32 x)) e
+
+pub interval-max-lateness-row : (κs : _) (a : _) (r : _) (s : _) → interval-max-lateness.Learnt κs a r s → staying (a .0) (told.u64 r) ≡ receiverStep (ReceiverCall.ask ReceiverQuestion.«interval_max_lateness») (a .0)
+unfolding receiverStep receiverTold
+interval-max-lateness-row κs a r s e = ap (λ x. staying (a .0) (told.u64 x)) e

@@ -40,6 +40,7 @@ module _ (s : ReceiverState) (h : greatestWindow < s .«owd_trend» .capacity) w
   told-by-rule ReceiverQuestion.«report_interval_ms» n = rw lawless refl
   told-by-rule ReceiverQuestion.«last_recv_ms» n = rw lawless refl
   told-by-rule ReceiverQuestion.«ecn_ce_count» n = rw lawless refl
+  told-by-rule ReceiverQuestion.«interval_max_lateness» n = rw lawless refl
 
   by-rule : (c : ReceiverCall) → c ≢ wide.keepsRule → receiverStep c s .refusal ≡ 1
   unfolding receiverStep frameOf frameRefusal rekeyOf clockRefusal reportRefusal fromSrttOf fromSrtt fromSrttRefusal withBoundsOf withBounds withBoundsRefusal updated firstNo

@@ -125,6 +125,7 @@ receiverTold ReceiverQuestion.«jitter_us» = ruleAlone
 receiverTold ReceiverQuestion.«report_interval_ms» = ruleAlone
 receiverTold ReceiverQuestion.«last_recv_ms» = ruleAlone
 receiverTold ReceiverQuestion.«ecn_ce_count» = ruleAlone
+receiverTold ReceiverQuestion.«interval_max_lateness» = ruleAlone
 
 -- 5 hangs on the record only where a sample is out of range: which slots are live is the record's to say
 abbrev pub toReceiver : ℕ → ReceiverCall → Put

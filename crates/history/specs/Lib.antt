@@ -14,4 +14,5 @@ pub mod Rekey
 pub mod LogEntry
 pub mod WideWindow
 pub mod NoCreep
+pub mod Lateness
 pub mod Example

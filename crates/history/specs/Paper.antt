@@ -14,6 +14,10 @@ greatestFrame = 2 ^ 32 - 1
 abbrev pub greatestDelay : ℕ
 greatestDelay = 2 ^ 42
 
+-- ---- document 02, W-203, "expected": a counter has 64 bits
+abbrev pub greatestCounter : ℕ
+greatestCounter = 2 ^ 64 - 1
+
 -- ---- "Capacity is clamped to 2 to 256", document 02, W-202; 32 by default
 abbrev pub leastWindow : ℕ
 leastWindow = 2

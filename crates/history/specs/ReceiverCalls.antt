@@ -3,7 +3,7 @@ use mathlib.Core.Bool.{Bool, true}
 use mathlib.Core.List.{List}
 use Prim.Native.Nat.{ℕ}
 use lib.IntN.{ℤ}
-use Rattle.receiver.specs.State.{keepsRule, withWindow, fresh, newOf, rekeyOf, packetsOf, bytesOf, highestOf, jitterOf, intervalOf, lastRecvOf, ecnOf}
+use Rattle.receiver.specs.State.{keepsRule, withWindow, fresh, newOf, rekeyOf, packetsOf, bytesOf, highestOf, jitterOf, intervalOf, lastRecvOf, ecnOf, latenessOf}
 use Rattle.receiver.specs.Frames.{frameOf, frameTimes, frameDelays}
 use Rattle.receiver.specs.Reports.{builtOf}
 use Rattle.receiver.specs.Pacing.{fromSrttOf, withBoundsOf, shouldSendOf}
@@ -28,7 +28,7 @@ newReceiver («new_with_cold_start» window ms) = newOf window ms .state
 pub data ReceiverQuestion : Type 0 where
   «should_send_report» : ℕ → ReceiverQuestion
   «keeps_rule» : ReceiverQuestion
-  «cumulative_packets_recv» «cumulative_bytes_recv» «highest_counter» «jitter_us» «report_interval_ms» «last_recv_ms» «ecn_ce_count» : ReceiverQuestion
+  «cumulative_packets_recv» «cumulative_bytes_recv» «highest_counter» «jitter_us» «report_interval_ms» «last_recv_ms» «ecn_ce_count» «interval_max_lateness» : ReceiverQuestion
 
 unfoldable pub receiverTold : ReceiverQuestion → ReceiverState → Told
 receiverTold («should_send_report» now) s = told.bool (shouldSendOf s now)
@@ -40,6 +40,7 @@ receiverTold «jitter_us» s = told.u32 (jitterOf s)
 receiverTold «report_interval_ms» s = told.u64 (intervalOf s)
 receiverTold «last_recv_ms» s = told.optional-u64 (lastRecvOf s)
 receiverTold «ecn_ce_count» s = told.u32 (ecnOf s)
+receiverTold «interval_max_lateness» s = told.u64 (latenessOf s)
 
 -- ---- a frame: the windows lent with it, counter, sender timestamp, bytes, CE mark and clock
 pub record Frame : Type 0 where
