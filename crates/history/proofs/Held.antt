@@ -1,5 +1,5 @@
 -- What the accepted calls on the records of an end leave them: each record is what those calls reach by themselves, keeps its rule, and is tied to the exact averages
--- of the calls.
+-- and the lateness of the calls.
 use mathlib.Core.Path.{_≡_, refl, _∙_, ap}
 use mathlib.Core.Bool.{true}
 use mathlib.Core.List.{List}
@@ -14,6 +14,7 @@ use Rattle.history.specs.MetricsCalls.{MetricsNew, newMetrics, MetricsCa
 use Rattle.history.specs.Ends.{End, EndNew, newEnd, EndCall, on-sender, on-receiver, on-metrics, endStep, Log, noCalls, endNote, endFits}
 use Rattle.history.specs.Asked.{capacityOf}
 use Rattle.history.proofs.JitterTied as jitters
+use Rattle.history.proofs.LatenessTied as lateness
 use Rattle.history.proofs.RoundTripTied as trips
 use Rattle.history.proofs.RulesKept as rules
 use Rattle.history.proofs.ReceiverAsked.{new-capacity, capacity-next}
@@ -26,6 +27,7 @@ pub record ReceiverHeld (k : ReceiverNew) (l : List ReceiverCall) (s : ReceiverS
   pub alone : s ≡ runOf receiverStep (newReceiver k) l
   pub lawful : rules.Receiving s
   pub jitter : jitters.Tied (jitters.exactOf l) s
+  pub lateness : lateness.Tied (lateness.exactOf l) s
   pub capacity : s .«owd_trend» .capacity ≡ capacityOf k
 
 pub record MetricsHeld (k : MetricsNew) (l : List MetricsCall) (m : MmpMetrics) : Type 0 where
@@ -42,7 +44,7 @@ pub new-held : (k : EndNew) → Held k noCalls (newEnd k)
 unfolding runOf
 new-held k = record {
   sender = record { alone = refl; rule = rules.new-sender (k .sender) };
-  receiver = record { alone = refl; lawful = rules.new-receiver (k .receiver); jitter = jitters.new-tied (k .receiver); capacity = new-capacity (k .receiver) };
+  receiver = record { alone = refl; lawful = rules.new-receiver (k .receiver); jitter = jitters.new-tied (k .receiver); lateness = lateness.new-tied (k .receiver); capacity = new-capacity (k .receiver) };
   metrics = record { alone = refl; lawful = rules.new-metrics (k .metrics); trips = trips.new-tied (k .metrics) };
 }
 
@@ -60,6 +62,7 @@ held-next (on-receiver c) k x e f z h = record {
         alone = ap (λ (s : ReceiverState). receiverStep c s .state) (h .receiver .alone);
         lawful = rules.receiver-next c (e .receiver) z (h .receiver .lawful);
         jitter = jitters.tied-next c (x .receiver) (e .receiver) z (h .receiver .jitter);
+        lateness = lateness.tied-next c (x .receiver) (e .receiver) z (h .receiver .lateness);
         capacity = capacity-next c (e .receiver) ∙ h .receiver .capacity;
       };
   metrics = h .metrics;

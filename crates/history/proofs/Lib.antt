@@ -18,6 +18,7 @@ pub mod NoCreepHolds
 pub mod RekeySaid
 pub mod LogSaid
 pub mod WideRefused
+pub mod LatenessHolds
 pub mod ExampleComputed
 pub mod SenderRows
 pub mod ReceiverRows

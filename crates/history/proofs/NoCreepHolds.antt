@@ -77,7 +77,7 @@ abbrev Alike : Two ℕ → Two End → Two End → Type 0
 Alike t w v = (s : Side) → Like (at s t) (at s w) (at s v)
 
 module _ (k : Two EndNew) where
-  abbrev Both : Two Log → Two End → Type 0
+  abbrev pub Both : Two Log → Two End → Type 0
   Both x w = (s : Side) → Held (at s k) (at s x) (at s w)
 
   both-new : Both noneYet (begun k)
@@ -103,10 +103,10 @@ module _ (k : Two EndNew) where
 
 -- ---- the whole
 module _ (k : Two EndNew) (h : List Call) (fits : All (ends .Fits) h) where
-  held : Both k (accepted k h) (reached k h)
+  pub held : Both k (accepted k h) (reached k h)
   held = tied-run ends stays (Both k) (both-next k) h fits (both-new k)
 
-  every : (P : Entry ends → Type 0) → ((c : Call) (x : Two Log) (w : Two End) → Both k x w → P (entry ends c w x)) → All P (written k h)
+  pub every : (P : Entry ends → Type 0) → ((c : Call) (x : Two Log) (w : Two End) → Both k x w → P (entry ends c w x)) → All P (written k h)
   every P one = all-run ends stays (Both k) (both-next k) P one h fits (both-new k)
 
   module _ (places : ℕ → Bool) (full : All (notFull ends) (written k h)) where
