@@ -39,7 +39,7 @@ kept-holds k h fits =
     record {
       kept = λ s. held k h fits s .receiver .lateness .lateness;
       offered = every k h fits late.OfferedHolds
-      (λ c x w e. let s = c .side in offered (c .call) (at s x) (at s w) (e s .receiver .lawful .rule) (e s .receiver .lateness .lateness));
+          (λ c x w e. let s = c .side in offered (c .call) (at s x) (at s w) (e s .receiver .lawful .rule) (e s .receiver .lateness .lateness));
     }
 
 -- ---- one call

@@ -73,8 +73,6 @@ fn state_sum(state: &ReceiverState, first: u64) -> u64 {
 fn called(call: u64, x: u64, s: &Numbers, state: &mut ReceiverState) -> u64 {
     let from = place(x);
     let given = s[from + 30];
-    // The port's greatest lateness: no frame is behind, and a report zeroes it.
-    let lateness = s[from + 31];
     match call {
         504 | 1504 => {
             let counter = expected(s[from + 8]).wrapping_add(u64::from(x >> 60 == 0));
@@ -82,13 +80,13 @@ fn called(call: u64, x: u64, s: &Numbers, state: &mut ReceiverState) -> u64 {
             let bytes = held(given, x >> 48) as usize;
             let sampled = is_set(given) == (call == 504);
             state.record_frame(counter, x as u32, bytes, x % 2 == 1, now_ms, sampled);
-            state_sum(state, if sampled { 11 } else { 10 }) ^ lateness
+            state_sum(state, if sampled { 11 } else { 10 })
         }
         507 => {
             let report = state.build_report(given);
-            state_sum(state, 10) ^ report.map_or(lateness, |r| receiver_sum(&r) ^ 1)
+            state_sum(state, 10) ^ report.map_or(0, |r| receiver_sum(&r) ^ 1)
         }
-        _ => state_sum(state, 10) ^ given ^ lateness,
+        _ => state_sum(state, 10) ^ given,
     }
 }
 
