@@ -107,7 +107,7 @@ fn state_of(s: &[u64], from: usize, x: u64) -> ReceiverState {
         report_interval_ms: at(s, from, 27),
         interval_has_data: is_set(s, from, 28),
         srtt_sample_count: word_at(s, from, 29),
-        interval_max_lateness: at(s, from, 31),
+        interval_max_lateness: held(s, from, 31, 0),
     }
 }
 
@@ -131,23 +131,18 @@ fn figures_sum(r: ReceiverState) -> u64 {
         ^ tracker_sum(gap_tracker)
 }
 
-// Of every field that the commit has.
 fn state_sum(r: ReceiverState) -> u64 {
     let counts = r.cumulative_packets_recv
         ^ r.cumulative_bytes_recv
         ^ r.cumulative_reorder_count
-        ^ r.highest_counter;
+        ^ r.highest_counter
+        ^ r.interval_max_lateness;
     let words = r.interval_packets_recv
         ^ r.interval_bytes_recv
         ^ r.ecn_ce_count
         ^ r.last_sender_timestamp
         ^ r.srtt_sample_count;
     counts ^ wide(words) ^ times_sum(r) ^ figures_sum(r) ^ flag(r.interval_has_data)
-}
-
-// What the lateness has moved by, which the commit's record has not: 0, since no frame is behind.
-fn moved(r: ReceiverState, s: &[u64], from: usize) -> u64 {
-    r.interval_max_lateness ^ at(s, from, 31)
 }
 
 // A frame in order, one in 16 a counter ahead, less than 2^24 ms after the reference.
@@ -175,26 +170,14 @@ fn record_frame(
         sampled,
     );
     let after = u.state;
-    state_sum(after) ^ moved(after, s, from) ^ u.refusal as u64
-}
-
-// The lateness after a report: 0.
-fn zeroed(some: bool, r: ReceiverState) -> u64 {
-    if some {
-        return r.interval_max_lateness;
-    }
-    0
+    state_sum(after) ^ u.refusal as u64
 }
 
 fn build_report(state: ReceiverState, now_ms: u64, times: &[u32], delays: &[i64]) -> u64 {
     let b = state.build_report(times, delays, now_ms);
     let after = b.state;
     let report = b.report;
-    state_sum(after)
-        ^ zeroed(b.some, after)
-        ^ receiver_sum(report)
-        ^ b.refusal as u64
-        ^ flag(b.some)
+    state_sum(after) ^ receiver_sum(report) ^ b.refusal as u64 ^ flag(b.some)
 }
 
 fn called(call: u64, x: u64, numbers: &[u64], times: &mut [u32], delays: &mut [i64]) -> u64 {
@@ -203,7 +186,7 @@ fn called(call: u64, x: u64, numbers: &[u64], times: &mut [u32], delays: &mut [i
     match call {
         504 | 1504 => record_frame(call, x, state, numbers, times, delays),
         507 => build_report(state, at(numbers, from, 30), times, delays),
-        _ => state_sum(state) ^ moved(state, numbers, from) ^ at(numbers, from, 30),
+        _ => state_sum(state) ^ at(numbers, from, 30),
     }
 }
 
