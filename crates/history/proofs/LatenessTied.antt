@@ -2,11 +2,11 @@
 use mathlib.Core.Path.{_≡_, refl, sym, ap, _∙_}
 use mathlib.Core.Bool.{Bool, true, false, cond, true≢false}
 use mathlib.Core.List.{List, [], _∷_, _++_}
-use Prim.Native.Nat.{ℕ, _+_, _-_, _≤_, _<_, _^_, min, max}
+use Prim.Native.Nat.{ℕ, _+_, _-_, _<_, _^_, min, max}
 use native.Mathlib.Omega.{arith}
-use lib.Dec.{leb, ltb, eqb}
+use lib.Dec.{ltb, eqb}
 use lib.IntN.{ℤ}
-use borrow.Author.Tests.{leb-true, leb-false, ltb-true, eqb-false}
+use borrow.Author.Tests.{ltb-true, eqb-false}
 use Rattle.refusals.proofs.PickedByTest.{picked}
 use Rattle.refusals.specs.declared.option.OptionU64.{OptionU64}
 use Rattle.refusals.specs.declared.option.OptionU64.the-variants.{None, Some}
@@ -14,6 +14,7 @@ use Rattle.algorithms.specs.Owd.{window}
 use Rattle.algorithms.specs.OwdTrend.{trendOf}
 use Rattle.gaps.specs.Gaps as gaps
 use Rattle.gaps.specs.Stats.{statsOf}
+use Rattle.gaps.proofs.DueFollows.{due-follows}
 use Rattle.gaps.specs.declared.Arrival.{Arrival}
 use Rattle.gaps.specs.declared.Arrival.the-variants.{Gap, Behind, InSequence}
 use Rattle.gaps.specs.declared.GapTracker.{GapTracker}
@@ -51,16 +52,7 @@ raised-more : (o : OptionU64) (counter most : ℕ) (ns : List ℕ) → most ≡ 
 unfolding greatest
 raised-more o counter most ns e = let r = raised o counter most in let a = greatest-append (behind (late.dueIn o) counter) ns in omega arith
 
--- the counter that is due next is one above the highest
-next-due : (n counter : ℕ) → gaps.nextAfter (min (n + 1) (2 ^ 64 - 1)) counter ≡ min (max n counter + 1) (2 ^ 64 - 1)
-unfolding gaps.nextAfter
-next-due n counter = go (leb (min (n + 1) (2 ^ 64 - 1)) counter) (leb-true (min (n + 1) (2 ^ 64 - 1)) counter) (leb-false (min (n + 1) (2 ^ 64 - 1)) counter)
-  where
-    go : (t : Bool) → (t ≡ true → min (n + 1) (2 ^ 64 - 1) ≤ counter) → (t ≡ false → counter < min (n + 1) (2 ^ 64 - 1)) →
-        cond t (min (counter + 1) (2 ^ 64 - 1)) (min (n + 1) (2 ^ 64 - 1)) ≡ min (max n counter + 1) (2 ^ 64 - 1)
-    go true l g = let a = l refl in omega arith
-    go false l g = let a = g refl in omega arith
-
+-- the counter that is due next follows the highest
 due-next : (o : OptionU64) (h : late.Highest) (t : GapTracker) (counter : ℕ) → late.dueIn o ≡ late.dueAfter h →
     late.dueIn (gaps.trackedAfter o t counter .«expected_next») ≡ late.dueAfter (late.highestBy (late.arrived counter) h)
 due-next None late.no-frame t counter e = refl
@@ -68,7 +60,7 @@ due-next None (late.highest n) t counter e = let z : _≡_ {A = ℕ} 0 1 = cc in
 due-next (Some expected) late.no-frame t counter e = let z : _≡_ {A = ℕ} 0 1 = cc in absurd (omega arith)
 due-next (Some expected) (late.highest n) t counter e =
     let same : expected ≡ min (n + 1) (2 ^ 64 - 1) = cc in
-    ap late.due (ap (λ (m : ℕ). gaps.nextAfter m counter) same ∙ next-due n counter)
+    ap late.due (ap (λ (m : ℕ). gaps.nextAfter m counter) same ∙ due-follows n counter)
 
 -- a report leaves the counter that is due
 stats-due : (t : GapTracker) → statsOf t .tracker .«expected_next» ≡ t .«expected_next»

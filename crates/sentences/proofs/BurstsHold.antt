@@ -4,9 +4,8 @@ use mathlib.Core.Path.{_≡_, refl, sym, ap, ap₂, _∙_}
 use mathlib.Core.Bool.{Bool, true, false, cond, true≢false}
 use mathlib.Core.List.{List, [], _∷_, _++_, foldl}
 use lib.ListN.{length}
-use lib.Dec.{leb}
 use native.Mathlib.Omega.{arith}
-use borrow.Author.Tests.{le-leb, lt-leb, leb-true, leb-false, ne-eqb}
+use borrow.Author.Tests.{ne-eqb}
 use Rattle.refusals.specs.declared.option.OptionU64.{OptionU64}
 use Rattle.refusals.specs.declared.option.OptionU64.the-variants.{Some}
 use Rattle.gaps.specs.Gaps as gaps
@@ -14,15 +13,17 @@ use Rattle.gaps.specs.Stats.{meanBurst, cleared, statsOf}
 use Rattle.gaps.specs.declared.GapTracker.{GapTracker}
 use Rattle.gaps.specs.declared.IntervalStats.{IntervalStats}
 use Rattle.gaps.proofs.RuleKept.{kept}
+use Rattle.gaps.proofs.DueFollows.{due-follows}
+use Rattle.gaps.proofs.LostIsGap.{lost-is-gap}
 use Rattle.sentences.specs.Bursts.{gapsAfter, closed, lengths, bursts, greatest, total, mean}
 
 -- a counter of 64 bits
-abbrev Counters : List ℕ → Type 0
+abbrev pub Counters : List ℕ → Type 0
 Counters [] = Unit {0}
 Counters (counter ∷ rest) = (counter < 2 ^ 64) × Counters rest
 
 -- the tracker after these frames
-abbrev after : GapTracker → List ℕ → GapTracker
+abbrev pub after : GapTracker → List ℕ → GapTracker
 after = foldl (λ (t : GapTracker) (counter : ℕ). gaps.observed t counter .tracker)
 
 -- the counter that is due after the highest
@@ -63,14 +64,6 @@ unfolding lengths
 one-more missing [] = omega arith
 one-more missing (zero ∷ gs) = omega arith
 one-more missing (suc g ∷ gs) = one-more (missing + suc g) gs
-
-next-due : (highest counter : ℕ) → counter < 2 ^ 64 → gaps.nextAfter (due highest) counter ≡ due (max highest counter)
-unfolding gaps.nextAfter
-next-due highest counter h = go (leb (due highest) counter) (leb-true (due highest) counter) (leb-false (due highest) counter)
-  where
-    go : (t : Bool) → (t ≡ true → due highest ≤ counter) → (t ≡ false → counter < due highest) → cond t (min (counter + 1) (2 ^ 64 - 1)) (due highest) ≡ due (max highest counter)
-    go true l g = let a = l refl in omega arith
-    go false l g = let a = g refl in omega arith
 
 -- one burst more in front
 behind : (told : IntervalStats) (finished most sum n : ℕ) (ls : List ℕ) → Told told (finished + 1) (max most n) (sum + n) ls → Told told finished most sum (n ∷ ls)
@@ -114,7 +107,7 @@ one-frame counter counters wide rest highest underway missing finished most sum 
     same-gap = omega arith
 
     next : gaps.nextAfter (due highest) counter ≡ due (max highest counter)
-    next = next-due highest counter wide
+    next = due-follows highest counter
 
     go : (b : Bool) → (b ≡ false → missing ≡ 0) → (gap : ℕ) → finished + length (lengths b missing (gap ∷ gs)) < 2 ^ 32 →
         Told (statsOf (after (gaps.expecting (gaps.gapObserved (tracker (due highest) b missing finished most sum) gap) (gaps.nextAfter (due highest) counter)) counters)) finished most sum
@@ -170,6 +163,8 @@ bursts-told highest counters wide room =
     (t .count ∙ omega arith, t .longest ∙ omega arith, t .mean ∙ ap₂ mean (omega arith) (omega arith))
 
 -- the frames that a call says were lost are the whole gap
-pub gap-told : (t : GapTracker) (highest counter : ℕ) → counter < 2 ^ 64 → t .«expected_next» ≡ Some (due highest) → gaps.observed t counter .lost ≡ counter - (highest + 1)
+pub gap-told : (t : GapTracker) (highest counter : ℕ) → counter < 2 ^ 64 → t .«expected_next» ≡ Some (due highest) → gaps.lostBefore (gaps.observed t counter .arrival) ≡ counter - (highest + 1)
 unfolding gaps.observed
-gap-told t highest counter wide e = let same : counter - due highest ≡ counter - (highest + 1) = omega arith in ap (λ (o : OptionU64). gaps.observedAfter o t counter .lost) e ∙ same
+gap-told t highest counter wide e =
+    let same : counter - due highest ≡ counter - (highest + 1) = omega arith in
+    ap (λ (o : OptionU64). gaps.lostBefore (gaps.arrivalAt o counter)) e ∙ lost-is-gap (Some (due highest)) counter ∙ same

@@ -4,6 +4,7 @@ pub mod CapacityHolds
 pub mod ChecksHold
 pub mod ReportBytesHold
 pub mod BurstsHold
+pub mod ArrivalsHold
 pub mod DelaysHold
 pub mod ReportsDueHold
 pub mod TrendsHold

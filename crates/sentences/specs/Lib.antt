@@ -4,4 +4,5 @@ pub mod Capacity
 pub mod StateRule
 pub mod ReportBytes
 pub mod Bursts
+pub mod Arrivals
 pub mod ReportsDue
