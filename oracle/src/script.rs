@@ -41,9 +41,9 @@ fn random_case(rng: &mut Rng, call: u64) -> Case {
         201..=207 => wire::random_case(rng, call),
         301..=357 => algorithms::random_case(rng, call),
         401..=417 => sender::random_case(rng, call),
-        451..=458 | 471..=473 => gaps::random_case(rng, call),
+        451..=459 | 471..=473 => gaps::random_case(rng, call),
         461..=467 => samples::random_case(rng, call),
-        501..=518 => receiver::random_case(rng, call),
+        501..=519 => receiver::random_case(rng, call),
         601..=619 => metrics::random_case(rng, call),
         _ => figures::random_case(rng, call),
     }

@@ -9,10 +9,15 @@ use refusals::option::OptionU64;
 
 // A tracker of a link without bursts at which this counter is due.
 fn due(counter: u64) -> GapTracker {
-    let mut t = GapTracker::new();
     let expected_next = OptionU64::Some(counter);
-    t.expected_next = expected_next;
-    t
+    GapTracker {
+        expected_next,
+        in_burst: false,
+        current_burst_len: 0,
+        burst_count: 0,
+        max_burst_len: 0,
+        total_burst_len: 0,
+    }
 }
 
 // How a frame of this counter comes: its case by number, from `First` on.

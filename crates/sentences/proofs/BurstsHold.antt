@@ -4,17 +4,18 @@ use mathlib.Core.Path.{_≡_, refl, sym, ap, ap₂, _∙_}
 use mathlib.Core.Bool.{Bool, true, false, cond, true≢false}
 use mathlib.Core.List.{List, [], _∷_, _++_, foldl}
 use lib.ListN.{length}
+use lib.Dec.{ltb}
 use native.Mathlib.Omega.{arith}
-use borrow.Author.Tests.{ne-eqb}
+use borrow.Author.Tests.{ltb-false, ne-eqb}
 use Rattle.refusals.specs.declared.option.OptionU64.{OptionU64}
 use Rattle.refusals.specs.declared.option.OptionU64.the-variants.{Some}
 use Rattle.gaps.specs.Gaps as gaps
 use Rattle.gaps.specs.Stats.{meanBurst, cleared, statsOf}
+use Rattle.gaps.specs.declared.Arrival.the-variants.{Gap, Behind, InSequence}
 use Rattle.gaps.specs.declared.GapTracker.{GapTracker}
 use Rattle.gaps.specs.declared.IntervalStats.{IntervalStats}
 use Rattle.gaps.proofs.RuleKept.{kept}
 use Rattle.gaps.proofs.DueFollows.{due-follows}
-use Rattle.gaps.proofs.LostIsGap.{lost-is-gap}
 use Rattle.sentences.specs.Bursts.{gapsAfter, closed, lengths, bursts, greatest, total, mean}
 
 -- a counter of 64 bits
@@ -162,9 +163,19 @@ bursts-told highest counters wide room =
     let t = told counters wide highest false 0 0 0 0 (λ e. refl) (omega arith) (omega arith) in
     (t .count ∙ omega arith, t .longest ∙ omega arith, t .mean ∙ ap₂ mean (omega arith) (omega arith))
 
+-- the commit's number of an arrival is the gap
+lost-is-gap : (expected counter : ℕ) → gaps.lostBefore (gaps.arrivalAfter expected counter) ≡ counter - expected
+unfolding gaps.arrivalAfter
+lost-is-gap expected counter = go (ltb expected counter) (ltb counter expected) (ltb-false expected counter)
+  where
+    go : (above below : Bool) → (above ≡ false → counter ≤ expected) → gaps.lostBefore (cond above (Gap (counter - expected)) (cond below (Behind (expected - counter)) InSequence)) ≡ counter - expected
+    go true below f = refl
+    go false true f = let h = f refl in omega arith
+    go false false f = let h = f refl in omega arith
+
 -- the frames that a call says were lost are the whole gap
 pub gap-told : (t : GapTracker) (highest counter : ℕ) → counter < 2 ^ 64 → t .«expected_next» ≡ Some (due highest) → gaps.lostBefore (gaps.observed t counter .arrival) ≡ counter - (highest + 1)
 unfolding gaps.observed
 gap-told t highest counter wide e =
     let same : counter - due highest ≡ counter - (highest + 1) = omega arith in
-    ap (λ (o : OptionU64). gaps.lostBefore (gaps.arrivalAt o counter)) e ∙ lost-is-gap (Some (due highest)) counter ∙ same
+    ap (λ (o : OptionU64). gaps.lostBefore (gaps.arrivalAt o counter)) e ∙ lost-is-gap (due highest) counter ∙ same

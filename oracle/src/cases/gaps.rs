@@ -1,9 +1,9 @@
-//! Calls 451 to 458 and 471 to 473: `GapTracker`.
+//! Calls 451 to 459 and 471 to 473: `GapTracker`.
 
 use crate::proto::mmp::receiver::oracle_access::{finish_burst, new_tracker, observe, take_interval_stats, Tracker};
 use crate::script::bounds::{asked, beside, first_no, maybe, optional};
 use crate::script::case::{commit, Case, Numbers, LAST_GAP};
-use crate::script::rng::Rng;
+use crate::script::rng::{boundaries, Rng};
 
 /// The greatest length of a burst.
 const MAX_LEN: u64 = 65_535;
@@ -38,6 +38,24 @@ pub fn begins_burst(t: &Tracker, counter: u64) -> bool {
 /// The frames missing before this counter.
 pub fn gap_before(t: &Tracker, counter: u64) -> u64 {
     t.expected_next.map_or(0, |expected| counter.saturating_sub(expected))
+}
+
+/// Where a frame of this counter stands, document 02, W-203: first, in sequence, a gap of n or behind by n, as its case and n. The commit's number is its own.
+pub fn arrival(t: &Tracker, counter: u64) -> [u64; 2] {
+    match t.expected_next {
+        None => [0, 0],
+        Some(expected) if counter == expected => [1, 0],
+        Some(expected) if counter > expected => [2, counter - expected],
+        Some(expected) => [3, expected - counter],
+    }
+}
+
+/// How far behind a frame of this counter is, 0 where it is not.
+pub fn behind_by(t: &Tracker, counter: u64) -> u64 {
+    match arrival(t, counter) {
+        [3, n] => n,
+        _ => 0,
+    }
 }
 
 /// The tracker that the commit leaves after a frame behind this gap. Past `LAST_GAP` its burst has the length of document 02, W-201, in place of the commit's;
@@ -79,7 +97,7 @@ pub fn observed(t: &Tracker, counter: u64) -> (Case, Tracker) {
     });
     let gap = gap_before(t, counter);
     let after = counted(gap, after);
-    let numbers = [&[lost], &tracker_numbers(&after)[..]].concat();
+    let numbers = [&[lost], &arrival(t, counter)[..], &tracker_numbers(&after)].concat();
     (on_tracker(452, t, &[counter], &numbers, outside).behind(gap), after)
 }
 
@@ -114,11 +132,11 @@ pub fn observe_asked(t: &Tracker, counter: u64) -> Case {
     let refusal = first_no(&[(1, tracker_keeps(t)), (10, room_for_burst(t, counter))]);
     // Where the count is full, the commit panics.
     assert!(refusal != 10 || commit(|| observe(t, counter)).is_none());
-    let refused = [&[0], &tracker_numbers(t)[..]].concat();
+    let refused = [&[0; 3], &tracker_numbers(t)[..]].concat();
     let gap = if refusal == 0 { gap_before(t, counter) } else { 0 };
     let answer = asked(refusal, &refused, || {
         let (lost, after) = observe(t, counter);
-        [&[lost], &tracker_numbers(&counted(gap, after))[..]].concat()
+        [&[lost], &arrival(t, counter)[..], &tracker_numbers(&counted(gap, after))].concat()
     });
     Case::new(Numbers::of(&[471]).and(&tracker_numbers(t)).and(&[counter]), answer).behind(gap)
 }
@@ -170,6 +188,22 @@ fn mean_burst(total: u64, count: u32) -> Case {
     };
     let ((_, _, mean), _) = take_interval_stats(&t);
     Case::new(Numbers::of(&[458, total, count.into()]), (Numbers::of(&[mean.into()]), false))
+}
+
+/// The number that the commit's `observe` answers where a frame comes so.
+fn lost_before(case: u64, n: u64) -> Case {
+    let (expected_next, counter) = match case {
+        0 => (None, 7),
+        1 => (Some(7), 7),
+        2 => (Some(0), n),
+        _ => (Some(n), 0),
+    };
+    let t = Tracker {
+        expected_next,
+        ..Tracker::default()
+    };
+    let (lost, _) = observe(&t, counter);
+    Case::new(Numbers::of(&[459, case, n]), (Numbers::of(&[lost]), false))
 }
 
 fn all(t: &Tracker, counter: u64) -> [Case; 9] {
@@ -237,6 +271,10 @@ pub fn boundary_cases() -> Vec<Case> {
             cases.extend([mean_burst(total, count), mean_burst(total.saturating_sub(1), count)]);
         }
     }
+    cases.extend([lost_before(0, 0), lost_before(1, 0)]);
+    for n in boundaries(8) {
+        cases.extend([lost_before(2, n), lost_before(3, n)]);
+    }
     cases
 }
 
@@ -295,6 +333,11 @@ pub fn random_case(rng: &mut Rng, call: u64) -> Case {
         471 => observe_asked(&t, counter),
         472 => stats_asked(&t),
         473 => finish_asked(&t),
+        459 => match rng.below(6) {
+            0 => lost_before(0, 0),
+            1 => lost_before(1, 0),
+            case => lost_before(2 + case as u64 % 2, counter),
+        },
         _ => mean_burst(about_whole_mean(rng, t.burst_count, t.total_burst_len), t.burst_count),
     }
 }

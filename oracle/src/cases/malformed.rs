@@ -47,11 +47,11 @@ const PLAIN: [&str; 77] = [
     "400",
     "418",
     "450",
-    "459",
+    "474",
     "460",
     "467",
     "500",
-    "519",
+    "520",
     "600",
     "620",
     "630",
@@ -136,7 +136,7 @@ fn misfitting(kind: Kind, misfit: Misfit) -> Vec<u64> {
     let past = match kind {
         Kind::Number(most) | Kind::Optional(most) | Kind::Window(most) => most.saturating_add(1),
         Kind::Buffer => 256,
-        Kind::Reference | Kind::Signed32 => 1 << 32,
+        Kind::Reference | Kind::Signed32 | Kind::Arrival => 1 << 32,
     };
     let longest = if matches!(kind, Kind::Buffer) { MOST_BYTES } else { MOST_WINDOW };
     match (misfit, kind) {
@@ -147,6 +147,8 @@ fn misfitting(kind: Kind, misfit: Misfit) -> Vec<u64> {
         (Misfit::Absent, Kind::Reference) => vec![0, 1, 0],
         (Misfit::AbsentSecond, _) => vec![0, 0, 1],
         (Misfit::Present, Kind::Reference) => vec![1, 0, past],
+        (Misfit::Flag, Kind::Arrival) => vec![4, 0],
+        (Misfit::Absent, Kind::Arrival) => vec![1, 1],
         (Misfit::Flag, _) => vec![2, 0],
         (Misfit::Absent, _) => vec![0, 1],
         (Misfit::Present, _) => vec![1, past],

@@ -1,4 +1,4 @@
-//! Calls 501 to 518 on any state that keeps the rule, or just not.
+//! Calls 501 to 519 on any state that keeps the rule, or just not.
 
 use crate::cases::gaps::{any_tracker, counter_for, spoil as spoil_tracker};
 use crate::cases::owd::{any_ring, lawless, requested};
@@ -60,6 +60,11 @@ fn any_receiver(rng: &mut Rng) -> Receiver {
     Receiver {
         fields,
         ring: any_ring(rng),
+        lateness: match rng.below(4) {
+            0 => 0,
+            1 => rng.below(9) as u64,
+            _ => rng.number(8),
+        },
     }
 }
 

@@ -1,4 +1,4 @@
-//! Calls 501 to 518 at the boundaries: every clause of the rule and every question, from both sides.
+//! Calls 501 to 519 at the boundaries: every clause of the rule and every question, from both sides.
 
 use crate::cases::gaps::edges as tracker_edges;
 use crate::cases::owd::{commits_widest, lawless, requested_sizes, ring_of, with_widest_buffers};
@@ -146,6 +146,7 @@ pub fn boundary_cases() -> Vec<Case> {
     about_questions(&mut cases);
     about_frames(&mut cases);
     about_order(&mut cases);
+    about_lateness(&mut cases);
     cases
 }
 
@@ -318,5 +319,43 @@ fn about_order(cases: &mut Vec<Case>) {
             Call::WithBounds(srtt_us, min_ms, now_ms),
         ];
         cases.extend(calls.map(|call| r.call(call).0));
+    }
+}
+
+/// Document 02, W-203: frames about the one that is due, sampled or not, in grace or not; reports that are made and that are not; rekeys; and the accessor.
+fn about_lateness(cases: &mut Vec<Case>) {
+    let mut ask = |r: &Receiver, call| cases.push(r.call(call).0);
+    let numbers = [0, 1, 5, 9, 65_537, u64::MAX];
+    for lateness in numbers {
+        let mut r = plain();
+        r.lateness = lateness;
+        for expected_next in [None, Some(0), Some(10), Some(65_537), Some(u64::MAX)] {
+            r.fields.gap_tracker.expected_next = expected_next;
+            let due = expected_next.unwrap_or(10);
+            let counters = [0, due.saturating_sub(5), due.saturating_sub(1), due, due.saturating_add(3), u64::MAX - 1, u64::MAX];
+            for counter in counters {
+                ask(&r, Call::RecordFrame(frame(counter, 900, 7000), false));
+                ask(&r, Call::RecordRecv(frame(counter, 900, 7000)));
+            }
+        }
+        r.fields.rekey_jitter_grace_until_ms = Some(8000);
+        r.fields.gap_tracker.expected_next = Some(10);
+        ask(&r, Call::RecordRecv(frame(5, 900, 7000)));
+        for interval_has_data in [true, false] {
+            r.fields.interval_has_data = interval_has_data;
+            ask(&r, Call::BuildReport(7000));
+            ask(&r, Call::BuildReport(MAX_MS + 1));
+        }
+        for now_ms in [7000, MAX_MS + 1] {
+            ask(&r, Call::Rekey(now_ms));
+        }
+        for srtt_us in [0, 600_000, MAX_US + 1] {
+            ask(&r, Call::FromSrtt(srtt_us));
+            ask(&r, Call::WithBounds(srtt_us, 500, 10_000));
+        }
+        ask(&r, Call::Lateness);
+        ask(&r, Call::KeepsRule);
+        r.fields.jitter_q4 = -1;
+        ask(&r, Call::Lateness);
     }
 }

@@ -25,7 +25,7 @@ pub fn rows(points: &mut Points) {
         full_input,
         full_run,
         || observed(&full, 2).0,
-        |numbers| format!("bursts: {}", numbers[5]),
+        |numbers| format!("bursts: {}", numbers[7]),
     );
     let stray = Tracker {
         current_burst_len: 1,
@@ -100,7 +100,7 @@ fn long_gaps(points: &mut Points) {
                 format!("lost {lost}, length {}", after.current_burst_len)
             },
             || observe_asked(&t, counter),
-            |numbers| format!("lost {}, length {}", numbers[1], numbers[5]),
+            |numbers| format!("lost {}, length {}", numbers[1], numbers[7]),
         );
     }
 }

@@ -13,7 +13,7 @@ pub struct Frame {
     pub now_ms: u64,
 }
 
-/// Calls 504 to 518.
+/// Calls 504 to 519.
 #[derive(Clone, Copy)]
 pub enum Call {
     RecordFrame(Frame, bool),
@@ -31,10 +31,11 @@ pub enum Call {
     LastRecv,
     Ecn,
     KeepsRule,
+    Lateness,
 }
 
 /// The calls that take nothing beside the state.
-pub const PLAIN: [Call; 8] = [
+pub const PLAIN: [Call; 9] = [
     Call::Packets,
     Call::Bytes,
     Call::Highest,
@@ -43,6 +44,7 @@ pub const PLAIN: [Call; 8] = [
     Call::LastRecv,
     Call::Ecn,
     Call::KeepsRule,
+    Call::Lateness,
 ];
 
 impl Call {
@@ -63,6 +65,7 @@ impl Call {
             Call::LastRecv => 516,
             Call::Ecn => 517,
             Call::KeepsRule => 518,
+            Call::Lateness => 519,
         }
     }
 
@@ -141,7 +144,7 @@ impl Call {
             Call::Interval => vec![s.report_interval_ms()],
             Call::LastRecv => optional(s.last_recv_ms()).to_vec(),
             Call::Ecn => vec![s.ecn_ce_count().into()],
-            Call::KeepsRule => unreachable!("the commit has no rule"),
+            Call::KeepsRule | Call::Lateness => unreachable!("the commit has no rule and no lateness"),
         }
     }
 }

@@ -2,7 +2,7 @@
 
 use std::collections::VecDeque;
 
-use crate::cases::gaps::{begins_burst, counted, gap_before, tracker_keeps, tracker_numbers};
+use crate::cases::gaps::{begins_burst, behind_by, counted, gap_before, tracker_keeps, tracker_numbers};
 use crate::proto::mmp::algorithms::oracle_access::owd;
 use crate::proto::mmp::receiver::oracle_access::{fields, state, window, Fields};
 use crate::proto::mmp::receiver::ReceiverState;
@@ -23,6 +23,8 @@ pub const MAX_JITTER: i64 = 1 << 35;
 pub struct Receiver {
     pub fields: Fields,
     pub ring: Ring,
+    /// The greatest lateness of the interval, document 02, W-203: the commit has no such field.
+    pub lateness: u64,
 }
 
 impl Receiver {
@@ -30,7 +32,11 @@ impl Receiver {
     pub fn of(s: &ReceiverState, mut ring: Ring) -> Self {
         (ring.count, ring.first) = (0, 0);
         assert!(window(s) == (ring.capacity, VecDeque::new()), "a new state's window is empty");
-        Self { fields: fields(s), ring }
+        Self {
+            fields: fields(s),
+            ring,
+            lateness: 0,
+        }
     }
 
     pub fn keeps(&self) -> bool {
@@ -66,6 +72,7 @@ impl Receiver {
             all.extend(optional(ms));
         }
         all.extend([f.report_interval_ms, f.interval_has_data.into(), f.srtt_sample_count.into()]);
+        all.push(self.lateness);
         all
     }
 
@@ -126,6 +133,16 @@ impl Receiver {
         ring
     }
 
+    /// The lateness after an accepted call that made a report, or not: every frame that is behind raises it, a report that is made and a rekey zero it.
+    fn lateness_after(&self, call: Call, report: bool) -> u64 {
+        match call {
+            Call::RecordFrame(frame, _) | Call::RecordRecv(frame) => self.lateness.max(behind_by(&self.fields.gap_tracker, frame.counter)),
+            Call::BuildReport(_) if report => 0,
+            Call::Rekey(_) => 0,
+            _ => self.lateness,
+        }
+    }
+
     fn in_grace(&self, now_ms: u64) -> bool {
         self.fields.rekey_jitter_grace_until_ms.is_some_and(|deadline| now_ms < deadline)
     }
@@ -146,6 +163,10 @@ impl Receiver {
             return (Case::new(line, (Numbers::of(&[self.keeps().into()]), true)), self.clone());
         }
         let refusal = self.refusal(call);
+        if let Call::Lateness = call {
+            let value = if refusal == 0 { self.lateness } else { 0 };
+            return (Case::new(line, (Numbers::of(&[refusal, value]), true)), self.clone());
+        }
         // Where a counter is full, or the bounds cross, the commit panics.
         assert!(
             refusal < 9 || commit(|| call.run(&mut self.commit())).is_none(),
@@ -159,9 +180,11 @@ impl Receiver {
             let mut s = self.commit();
             let values = call.run(&mut s);
             let ring = self.ring_after(call, &s);
+            let lateness = self.lateness_after(call, values.first() == Some(&1));
             let mut fields = fields(&s);
             fields.gap_tracker = counted(gap, fields.gap_tracker);
-            (values, Receiver { fields, ring })
+            let after = Receiver { fields, ring, lateness };
+            (values, after)
         };
         let mut answer = Numbers::of(&[refusal]).and(&values);
         if call.moves() {
@@ -170,7 +193,8 @@ impl Receiver {
         if call.frame().is_some() {
             answer = answer.and(&after.ring.windows());
         }
-        let case = Case::new(line, (answer, refusal > 0)).behind(gap);
+        let late = frame.map_or(0, |(frame, _)| behind_by(&self.fields.gap_tracker, frame.counter));
+        let case = Case::new(line, (answer, refusal > 0)).behind(gap).late(late, after.lateness > self.lateness);
         let tells_trend = matches!(call, Call::BuildReport(_)) && values.first() == Some(&1);
         (if tells_trend { case.over(&self.ring) } else { case }, after)
     }

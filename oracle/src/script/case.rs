@@ -21,6 +21,8 @@ pub struct Case {
     pub requested: bool,
     /// The frames missing before the one that an accepted call counts; 0 for any other call.
     pub gap: u64,
+    /// How far behind the frame of an accepted call on a receiver is, 0 where it is not; and whether it raises the greatest lateness.
+    pub late: (u64, bool),
     /// The window of an accepted trend or report, where it is full: its size, and whether it wraps.
     pub window: Option<(usize, bool)>,
 }
@@ -37,6 +39,7 @@ impl Case {
             outside,
             requested: false,
             gap: 0,
+            late: (0, false),
             window: None,
         }
     }
@@ -54,6 +57,12 @@ impl Case {
         self.as_requested(gap > LAST_GAP)
     }
 
+    /// An accepted frame, with how far behind it is.
+    pub fn late(mut self, n: u64, raises: bool) -> Self {
+        self.late = (n, raises);
+        self
+    }
+
     /// A trend, or a report with one, of this window.
     pub fn over(mut self, ring: &Ring) -> Self {
         let full = ring.count == ring.capacity;
@@ -69,6 +78,7 @@ impl Case {
             outside: true,
             requested: false,
             gap: 0,
+            late: (0, false),
             window: None,
         }
     }

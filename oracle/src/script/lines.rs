@@ -31,8 +31,9 @@ pub enum Misfit {
     /// A number above the positive ones of an i32, or below the pattern of the least.
     Above,
     Below,
+    /// No flag, or no case of an arrival.
     Flag,
-    /// A number beside a flag that is 0; the second of a reference.
+    /// A number beside a flag that is 0, or beside a plain case; the second of a reference.
     Absent,
     AbsentSecond,
     Present,
@@ -49,6 +50,7 @@ pub fn misfits(kind: Kind) -> Vec<Misfit> {
         Kind::Optional(u64::MAX) => vec![Misfit::Flag, Misfit::Absent],
         Kind::Optional(_) => vec![Misfit::Flag, Misfit::Absent, Misfit::Present],
         Kind::Reference => vec![Misfit::Flag, Misfit::Absent, Misfit::AbsentSecond, Misfit::Present],
+        Kind::Arrival => vec![Misfit::Flag, Misfit::Absent],
         Kind::Buffer => vec![Misfit::Length, Misfit::Element],
         Kind::Window(u64::MAX) => vec![Misfit::Length],
         Kind::Window(_) => vec![Misfit::Length, Misfit::Element],
@@ -85,6 +87,12 @@ fn width(kind: Kind, numbers: &[u64]) -> Result<usize, Option<Misfit>> {
             misfit(first == 0 && third > 0, Misfit::AbsentSecond)?;
             misfit(third > u32::MAX.into(), Misfit::Present)?;
             Ok(3)
+        }
+        Kind::Arrival => {
+            let second = number(1)?;
+            misfit(first > 3, Misfit::Flag)?;
+            misfit(first < 2 && second > 0, Misfit::Absent)?;
+            Ok(2)
         }
         Kind::Buffer => counted(numbers, MOST_BYTES, u8::MAX.into()),
         Kind::Window(most) => counted(numbers, MOST_WINDOW, most),

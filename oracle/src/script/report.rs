@@ -43,6 +43,8 @@ pub struct Report {
     counts: BTreeMap<u64, Count>,
     /// Accepted frames behind a gap: well below `LAST_GAP`, the last two up to it, the first two past it, longer ones.
     gaps: [usize; 4],
+    /// Accepted frames on a receiver that are behind, and those of them that raise the greatest lateness: by 1, by more.
+    late: [[usize; 2]; 2],
     /// The full windows whose trend the commit settles, by call: their sizes, not wrapped and wrapped.
     windows: BTreeMap<u64, [BTreeSet<usize>; 2]>,
     shown: usize,
@@ -70,6 +72,11 @@ impl Report {
             if case.gap > 0 {
                 let past = [LAST_GAP - 2, LAST_GAP, LAST_GAP + 2].iter().filter(|end| case.gap > **end);
                 self.gaps[past.count()] += 1;
+            }
+            if let (n @ 1.., raises) = case.late {
+                let by = usize::from(n > 1);
+                self.late[0][by] += 1;
+                self.late[1][by] += usize::from(raises);
             }
             if let Some((size, wrapped)) = case.window {
                 self.windows.entry(case.call).or_default()[usize::from(wrapped)].insert(size);
@@ -116,6 +123,8 @@ impl Report {
         println!(
             "accepted frames behind a gap: {below} of 1 to 65533, {up_to} of 65534 and 65535, {past} of 65536 and 65537, {long} of more"
         );
+        let [[one, more], [raised_one, raised_more]] = self.late;
+        println!("accepted frames behind: {one} by 1 and {more} by more; of these {raised_one} and {raised_more} raise the greatest lateness");
         for (call, [straight, wrapped]) in &self.windows {
             println!(
                 "full windows of 2 to {MAX_WINDOW} whose trend {call} tells: {} of {} sizes not wrapped, {} wrapped",

@@ -14,6 +14,8 @@ pub enum Kind {
     /// A flag and a number that is at most this.
     Optional(u64),
     Reference,
+    /// A case of four and its number: the first two have none.
+    Arrival,
     Buffer,
     /// A length and so many numbers that are at most this.
     Window(u64),
@@ -25,7 +27,7 @@ pub enum Part {
     Refusal,
     Bool,
     Optional,
-    /// A log entry, or a kind of round trip.
+    /// A log entry, a kind of round trip, or an arrival.
     Choice,
 }
 
@@ -113,6 +115,7 @@ fn kinds(item: &'static str) -> Vec<Kind> {
         (_, Some(most)) => vec![Kind::Number(most)],
         ("i32", _) => vec![Kind::Signed32],
         ("reference", _) => vec![Kind::Reference],
+        ("arrival", _) => vec![Kind::Arrival],
         ("buffer", _) => vec![Kind::Buffer],
         ("times", _) => vec![Kind::Window(u32::MAX.into())],
         ("delays", _) => vec![Kind::Window(u64::MAX)],
@@ -155,9 +158,9 @@ fn parts_of(cell: &'static str) -> (Vec<(usize, Part)>, Vec<u64>) {
         } else if item.split(' ').any(|word| word == "optional") {
             parts.push((at, Part::Optional));
             at += 2;
-        } else if item == "log" || item == "kind" {
+        } else if let Some(width) = [("log", 4), ("kind", 1), ("arrival", 2)].iter().find_map(|(name, width)| (item == *name).then_some(width)) {
             parts.push((at, Part::Choice));
-            at += if item == "log" { 4 } else { 1 };
+            at += width;
         } else if last == "bool" {
             parts.push((at, Part::Bool));
             at += 1;
