@@ -21,7 +21,7 @@ use Rattle.gaps.specs.declared.GapTracker.{GapTracker}
 use Rattle.pace.specs.Updates.{coldStartRefusal, fromSrtt, withBounds}
 use Rattle.pace.specs.declared.Paced.{Paced}
 use Rattle.receiver.specs.State.{keepsRule, startedAt, fresh, newOf, rekeyed, rekeyOf}
-use Rattle.receiver.specs.Frames.{latenessAfter, counted, timingSampled, echoIfSampled, pushes, withSample, frameOf}
+use Rattle.receiver.specs.Frames.{lateBy, counted, timingSampled, echoIfSampled, pushes, withSample, frameOf}
 use Rattle.receiver.specs.Reports.{someBuilt, noneBuilt, built, reportRefusal, builtOf}
 use Rattle.receiver.specs.Pacing.{withPace, fromSrttOf, withBoundsOf}
 use Rattle.receiver.specs.declared.ReceiverState.{ReceiverState}
@@ -36,19 +36,19 @@ greatest-append [] ns = omega arith
 greatest-append (m ∷ ms) ns = let e = greatest-append ms ns in omega arith
 
 -- it raises the greatest so far to how far it is behind
-pub raised : (o : OptionU64) (counter most : ℕ) → latenessAfter most (gaps.arrivalAt o counter) ≡ greatest (most ∷ behind (late.dueIn o) counter)
+pub raised : (o : OptionU64) (counter most : ℕ) → max most (lateBy (gaps.arrivalAt o counter)) ≡ greatest (most ∷ behind (late.dueIn o) counter)
 unfolding greatest behind gaps.arrivalAfter
 raised None counter most = omega arith
 raised (Some expected) counter most = go (ltb expected counter) (ltb counter expected) (ltb-true expected counter) (ltb-true counter expected)
   where
     go : (above below : Bool) → (above ≡ true → expected < counter) → (below ≡ true → counter < expected) →
-        latenessAfter most (cond above (Gap (counter - expected)) (cond below (Behind (expected - counter)) InSequence)) ≡ greatest (most ∷ cond below ((expected - counter) ∷ []) [])
+        max most (lateBy (cond above (Gap (counter - expected)) (cond below (Behind (expected - counter)) InSequence))) ≡ greatest (most ∷ cond below ((expected - counter) ∷ []) [])
     go true true a b = let p = a refl in let q = b refl in absurd (omega arith)
     go true false a b = omega arith
     go false true a b = omega arith
     go false false a b = omega arith
 
-raised-more : (o : OptionU64) (counter most : ℕ) (ns : List ℕ) → most ≡ greatest ns → latenessAfter most (gaps.arrivalAt o counter) ≡ greatest (behind (late.dueIn o) counter ++ ns)
+raised-more : (o : OptionU64) (counter most : ℕ) (ns : List ℕ) → most ≡ greatest ns → max most (lateBy (gaps.arrivalAt o counter)) ≡ greatest (behind (late.dueIn o) counter ++ ns)
 unfolding greatest
 raised-more o counter most ns e = let r = raised o counter most in let a = greatest-append (behind (late.dueIn o) counter) ns in omega arith
 

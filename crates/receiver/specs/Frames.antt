@@ -31,14 +31,14 @@ reordersAfter reorders highest counter = cond (ltb counter highest) (reorders + 
 unfoldable pub markedAfter : ℕ → Bool → ℕ
 markedAfter count ce = cond ce (min (count + 1) (2 ^ 32 - 1)) count
 
--- document 02, W-203, "the greatest lateness of the interval": a frame behind by n raises it to n; no other does
-abbrev pub latenessAfter : ℕ → Arrival → ℕ
-latenessAfter greatest (Behind n) = max greatest n
-latenessAfter greatest First = greatest
-latenessAfter greatest InSequence = greatest
-latenessAfter greatest (Gap n) = greatest
+-- document 02, W-203: how far behind a frame is, 0 where it is not
+abbrev pub lateBy : Arrival → ℕ
+lateBy First = 0
+lateBy InSequence = 0
+lateBy (Gap n) = 0
+lateBy (Behind n) = n
 
--- every frame is counted, in the lifetime exactly and in the interval as far as 32 bits go
+-- every frame is counted, in the lifetime exactly and in the interval as far as 32 bits go; "The receiver keeps the greatest lateness of the interval"
 unfoldable pub counted : ReceiverState → ℕ → ℕ → Bool → ReceiverState
 counted s counter bytes ce =
     record {
@@ -60,7 +60,7 @@ counted s counter bytes ce =
       «report_interval_ms» = s .«report_interval_ms»;
       «interval_has_data» = true;
       «srtt_sample_count» = s .«srtt_sample_count»;
-      «interval_max_lateness» = latenessAfter (s .«interval_max_lateness») (observed (s .«gap_tracker») counter .arrival);
+      «interval_max_lateness» = max (s .«interval_max_lateness») (lateBy (observed (s .«gap_tracker») counter .arrival));
     }
 
 -- what the sums leave room for

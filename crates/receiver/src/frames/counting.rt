@@ -2,7 +2,7 @@
 
 ghost use mathlib.Core.Path.{_≡_};
 ghost use Prim.Native.Nat.{_+_, _<_, _^_};
-ghost use Rattle.receiver.specs.Frames.{Room, reordersAfter, markedAfter, latenessAfter, counted, countersOk};
+ghost use Rattle.receiver.specs.Frames.{Room, reordersAfter, markedAfter, lateBy, counted, countersOk};
 use crate::ReceiverState;
 use gaps::Arrival;
 use numbers::methods::max_u64;
@@ -32,15 +32,15 @@ fn marked_after(count: u32, ce_flag: bool) -> u32
     }
 }
 
-// The greater lateness, where the frame is behind.
-fn lateness_after(greatest: u64, arrival: Arrival) -> u64
-    ensures { λ r. ⌜ r ≡ latenessAfter greatest arrival ⌝ }
+// How far behind the frame is, 0 where it is not.
+fn late_by(arrival: Arrival) -> u64
+    ensures { λ r. ⌜ r ≡ lateBy arrival ⌝ }
 {
     match arrival {
-        Arrival::First => greatest,
-        Arrival::InSequence => greatest,
-        Arrival::Gap(_missing) => greatest,
-        Arrival::Behind(late) => max_u64(greatest, late),
+        Arrival::First => 0,
+        Arrival::InSequence => 0,
+        Arrival::Gap(_missing) => 0,
+        Arrival::Behind(late) => late,
     }
 }
 
@@ -64,7 +64,7 @@ impl ReceiverState {
         state.highest_counter = max_u64(self.highest_counter, counter);
         state.gap_tracker = gap_tracker;
         state.ecn_ce_count = marked_after(self.ecn_ce_count, ce_flag);
-        state.interval_max_lateness = lateness_after(self.interval_max_lateness, arrival);
+        state.interval_max_lateness = max_u64(self.interval_max_lateness, late_by(arrival));
         state
     }
 
