@@ -42,6 +42,18 @@ kept-holds k h fits =
           (λ c x w e. let s = c .side in offered (c .call) (at s x) (at s w) (e s .receiver .lawful .rule) (e s .receiver .lateness .lateness));
     }
 
+-- computed: of counters 9, 5 and 7, the latest call first, 10 was due for the last two; of a report between them and 9 once more, the last alone counts
+came : ℕ → ReceiverCall
+came counter = ReceiverCall.«record_recv» (record { times = []; delays = []; counter = counter; timestamp = 0; bytes = 0; ce = false; now = 0 })
+
+two-late : late.latenesses (came 7 ∷ came 5 ∷ came 9 ∷ []) ≡ 3 ∷ 5 ∷ []
+unfolding late.latenesses late.highestAfter behind came
+two-late = refl
+
+one-since : greatest (late.latenesses (came 9 ∷ ReceiverCall.«build_report» [] [] 0 ∷ came 5 ∷ came 9 ∷ [])) ≡ 1
+unfolding late.latenesses late.highestAfter behind greatest came
+one-since = refl
+
 -- ---- one call
 frame-raised : (s : ReceiverState) (f : Frame) (sampled : Bool) → framing f sampled s .refusal ≡ 0 →
     framing f sampled s .state .«interval_max_lateness» ≡ greatest (s .«interval_max_lateness» ∷ behind (late.dueIn (s .«gap_tracker» .«expected_next»)) (f .counter))

@@ -12,6 +12,7 @@ use crate::proto::mmp::receiver::oracle_access::{finish_burst, observe, Tracker}
 /// The tracker behind its questions and without them, and the jitter of a frame: without them a full count saturates, a D is reduced.
 pub fn rows(points: &mut Points) {
     long_gaps(points);
+    late_frame(points);
     let full = Tracker {
         expected_next: Some(1),
         burst_count: u32::MAX,
@@ -103,4 +104,22 @@ fn long_gaps(points: &mut Points) {
             |numbers| format!("lost {}, length {}", numbers[1], numbers[7]),
         );
     }
+}
+
+/// Document 02, W-203: the first frame that is behind, of which the commit says what it says of one in sequence.
+fn late_frame(points: &mut Points) {
+    let due = Tracker {
+        expected_next: Some(1),
+        ..Tracker::default()
+    };
+    points.shown(
+        "`GapTracker::observe`",
+        "counter 0 where 1 is expected",
+        || format!("lost {}", observe(&due, 0).0),
+        || observe_asked(&due, 0),
+        |numbers| match numbers[2..4] {
+            [3, n] => format!("lost {}, behind by {n}", numbers[1]),
+            _ => "not behind".into(),
+        },
+    );
 }
