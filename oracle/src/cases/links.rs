@@ -197,7 +197,7 @@ impl Peer {
             4 => self.receive(receiver_call::Call::ShouldSend(now_ms), told),
             5 => self.receive(receiver_call::Call::FromSrtt(srtt_us), told),
             6 => self.receive(receiver_call::Call::WithBounds(srtt_us, min_ms, max_ms), told),
-            7 | 8 => self.receive(receiver_call::PLAIN[rng.below(8)], told),
+            7 | 8 => self.receive(receiver_call::PLAIN[rng.below(receiver_call::PLAIN.len())], told),
             9 | 10 => self.send(sender_state::Call::BuildReport(now_ms), told),
             11 => self.send(sender_state::Call::ShouldSend(now_ms), told),
             12 => self.send(sender_state::Call::ShouldSend(due(rng, &self.end.sender)), told),

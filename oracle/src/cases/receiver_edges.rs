@@ -332,7 +332,15 @@ fn about_lateness(cases: &mut Vec<Case>) {
         for expected_next in [None, Some(0), Some(10), Some(65_537), Some(u64::MAX)] {
             r.fields.gap_tracker.expected_next = expected_next;
             let due = expected_next.unwrap_or(10);
-            let counters = [0, due.saturating_sub(5), due.saturating_sub(1), due, due.saturating_add(3), u64::MAX - 1, u64::MAX];
+            let counters = [
+                0,
+                due.saturating_sub(5),
+                due.saturating_sub(1),
+                due,
+                due.saturating_add(3),
+                u64::MAX - 1,
+                u64::MAX,
+            ];
             for counter in counters {
                 ask(&r, Call::RecordFrame(frame(counter, 900, 7000), false));
                 ask(&r, Call::RecordRecv(frame(counter, 900, 7000)));

@@ -194,7 +194,9 @@ impl Receiver {
             answer = answer.and(&after.ring.windows());
         }
         let late = frame.map_or(0, |(frame, _)| behind_by(&self.fields.gap_tracker, frame.counter));
-        let case = Case::new(line, (answer, refusal > 0)).behind(gap).late(late, after.lateness > self.lateness);
+        let case = Case::new(line, (answer, refusal > 0))
+            .behind(gap)
+            .late(late, after.lateness > self.lateness);
         let tells_trend = matches!(call, Call::BuildReport(_)) && values.first() == Some(&1);
         (if tells_trend { case.over(&self.ring) } else { case }, after)
     }

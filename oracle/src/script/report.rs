@@ -124,7 +124,9 @@ impl Report {
             "accepted frames behind a gap: {below} of 1 to 65533, {up_to} of 65534 and 65535, {past} of 65536 and 65537, {long} of more"
         );
         let [[one, more], [raised_one, raised_more]] = self.late;
-        println!("accepted frames behind: {one} by 1 and {more} by more; of these {raised_one} and {raised_more} raise the greatest lateness");
+        println!(
+            "accepted frames behind: {one} by 1 and {more} by more; of these {raised_one} and {raised_more} raise the greatest lateness"
+        );
         for (call, [straight, wrapped]) in &self.windows {
             println!(
                 "full windows of 2 to {MAX_WINDOW} whose trend {call} tells: {} of {} sizes not wrapped, {} wrapped",

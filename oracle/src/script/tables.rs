@@ -158,7 +158,10 @@ fn parts_of(cell: &'static str) -> (Vec<(usize, Part)>, Vec<u64>) {
         } else if item.split(' ').any(|word| word == "optional") {
             parts.push((at, Part::Optional));
             at += 2;
-        } else if let Some(width) = [("log", 4), ("kind", 1), ("arrival", 2)].iter().find_map(|(name, width)| (item == *name).then_some(width)) {
+        } else if let Some(width) = [("log", 4), ("kind", 1), ("arrival", 2)]
+            .iter()
+            .find_map(|(name, width)| (item == *name).then_some(width))
+        {
             parts.push((at, Part::Choice));
             at += width;
         } else if last == "bool" {
