@@ -125,7 +125,7 @@ impl Report {
         );
         let [[one, more], [raised_one, raised_more]] = self.late;
         println!(
-            "accepted frames behind: {one} by 1 and {more} by more; of these {raised_one} and {raised_more} raise the greatest lateness"
+            "late frames on a receiver, accepted: {one} behind by 1 and {more} by more; of these {raised_one} and {raised_more} raise the greatest lateness"
         );
         for (call, [straight, wrapped]) in &self.windows {
             println!(
