@@ -1,8 +1,8 @@
 -- What a loop that stores the bytes of a number leaves.
 use Prim.Native.Nat.{ℕ, zero, suc, _+_, _-_, _/_, _%_, _≤_, _<_}
-use mathlib.Core.Path.{_≡_, ap, sym, _∙_}
-use mathlib.Core.List.{List, _++_, append-nil}
-use lib.ListN.{length, take, drop, set, replicate, length-replicate, drop-of-length-le}
+use mathlib.Core.Path.{_≡_, sym, _∙_}
+use mathlib.Core.List.{List, _++_}
+use lib.ListN.{length, take, drop, set}
 use lib.Seq.{sets, sets-eq, paste, take-length}
 use native.Mathlib.Numerals.{add-one}
 use native.Mathlib.Omega.{arith}
@@ -38,17 +38,6 @@ with-field-here b at n x p h =
 pub with-field-not : (b : List ℕ) (at n x : ℕ) → length b - at < n → b ≡ withField b at n x
 unfolding withField
 with-field-not b at n x h = sym (stored-not b at (leBytes n x) (omega (arith, length-bytes n x)))
-
--- a field stored over as many zeros is its bytes
-pub fresh : (n x : ℕ) → withField (replicate n 0) 0 n x ≡ leBytes n x
-unfolding withField
-fresh n x =
-    let e : length (leBytes n x) ≡ n = length-bytes n x in
-    let zeros : List ℕ = replicate n 0 in
-    let z : length zeros ≡ n = length-replicate n 0 in
-    stored-here zeros 0 (leBytes n x) (omega (arith, e, z))
-    ∙ ap (λ (r : List ℕ). leBytes n x ++ r) (drop-of-length-le zeros {i = 0 + length (leBytes n x)} (omega (arith, e, z)))
-    ∙ append-nil (leBytes n x)
 
 -- a copy of all of v, made element by element
 pub copied : (b : List ℕ) (at : ℕ) (v : List ℕ) (n : ℕ) → n ≡ length v → length v ≤ length b - at → paste b at v n ≡ stored b at v

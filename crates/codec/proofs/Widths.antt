@@ -1,27 +1,16 @@
--- Little-endian fields of any width: m bytes and then n more; reading undoes writing, writing undoes reading; equal bytes read alike.
+-- Little-endian fields of any width: reading undoes writing, writing undoes reading; equal bytes read alike.
 use Prim.Native.Nat.{ℕ, zero, suc, _+_, _-_, _*_, _/_, _%_, _^_, _≤_, _<_}
 use mathlib.Core.Path.{_≡_, refl, ap}
 use mathlib.Core.List.{List, [], _∷_, _++_}
-use lib.ListN.{length, getD, take, drop, replicate, length-append}
+use lib.ListN.{length, getD, take, drop, length-append}
 use lib.Seq.{append-snoc, drop-cons, getD-append-seam}
 use native.Mathlib.Numerals.{add-one}
 use native.Mathlib.Omega.{arith}
-use native.Mathlib.Nat.{add-zero, zero-add, suc-add, pow-zero, one-mul, pow-succ', pow-suc, mul-assoc, mod-add-div, div-lt-iff-lt-mul, one-le-pow}
+use native.Mathlib.Nat.{pow-zero, pow-succ', pow-suc, mod-add-div, div-lt-iff-lt-mul, one-le-pow}
 use mathlib.Core.Bool.{Bool, true, false, cond}
 use lib.Dec.{leb}
-use borrow.Author.Tests.{le-leb, lt-leb, leb-true}
+use borrow.Author.Tests.{le-leb, lt-leb}
 use Rattle.codec.specs.LittleEndian.{leAt, leBytes, fieldAt}
-use Rattle.codec.specs.Reading.{arrayAt}
-
--- READING, over the widths: m bytes and then n more
-pub le-join : (s : List ℕ) (at m n : ℕ) → leAt s at (m + n) ≡ leAt s at m + 256 ^ m * leAt s (at + m) n
-unfolding leAt
-le-join s at zero n = simp (zero-add, add-zero, pow-zero, one-mul)
-le-join s at (suc m) n =
-    let ih : leAt s (at + 1) (m + n) ≡ leAt s (at + 1) m + 256 ^ m * leAt s (at + 1 + m) n = le-join s (at + 1) m n in
-    let idx : at + 1 + m ≡ at + suc m = omega arith in
-    let p : 256 ^ suc m * leAt s (at + suc m) n ≡ 256 * (256 ^ m * leAt s (at + suc m) n) = rw (pow-succ', mul-assoc) in
-    rw (suc-add m n) (omega (arith, rw idx at ih, p))
 
 -- WRITING, over the widths: n bytes are written
 pub length-bytes : (n x : ℕ) → length (leBytes n x) ≡ n
@@ -79,20 +68,6 @@ field-small s at n small = go (leb n (length s - at))
     go : (t : Bool) → cond t (leAt s at n) 0 < 256 ^ n
     go true = le-small s at n small
     go false = one-le-pow n 256 (omega arith)
-
-zero-bytes : (n : ℕ) → leBytes n 0 ≡ replicate n 0
-unfolding leBytes
-zero-bytes zero = refl
-zero-bytes (suc n) = ap (λ (l : List ℕ). 0 ∷ l) (zero-bytes n)
-
--- the bytes of a field, as an array
-pub field-array : (s : List ℕ) (at n : ℕ) → 0 < n → ((i : ℕ) → getD s i 0 < 256) → leBytes n (fieldAt s at n) ≡ arrayAt s at n
-unfolding fieldAt arrayAt
-field-array s at n p small = go (leb n (length s - at)) refl
-  where
-    go : (t : Bool) → leb n (length s - at) ≡ t → leBytes n (cond t (leAt s at n) 0) ≡ cond t (take n (drop at s)) (replicate n 0)
-    go true e = let h = leb-true n (length s - at) e in bytes-read s at n small (omega arith)
-    go false e = zero-bytes n
 
 -- equal bytes read alike
 pub read-alike : (s t : List ℕ) (at n : ℕ) → ((i : ℕ) → at ≤ i → i < at + n → getD s i 0 ≡ getD t i 0) → leAt s at n ≡ leAt t at n

@@ -1,4 +1,4 @@
-// Little-endian fields at a position of a slice. Every function is total: a field that does not lie in the slice whole reads as 0, and a store that
+// Little-endian fields at a position of a slice. Every public function is total: a field that does not lie in the slice whole reads as 0, and a store that
 // does not fit writes nothing.
 ghost use mathlib.Core.Path.{_≡_};
 ghost use Prim.Native.Nat.{_+_, _-_, _≤_, _<_};
@@ -6,8 +6,11 @@ ghost use lib.ListN.{length};
 ghost use mir.Syntax.{w32};
 ghost use mir.Val.{toZ, ofZ};
 ghost use Rattle.codec.specs.LittleEndian.{leAt, fieldAt, withField};
+use crate::words::i32_of;
+use crate::words::u16_of;
+use crate::words::u32_of;
+use crate::words::u64_of;
 use numbers::signs::bits32;
-use numbers::signs::signed32;
 
 // How many bytes lie from a position on.
 pub fn left_at(s: &[u8], at: usize) -> usize
@@ -19,37 +22,35 @@ pub fn left_at(s: &[u8], at: usize) -> usize
     0
 }
 
-fn wide(x: u8) -> u16
-    ensures { λ r. ⌜ (r ≡ x) × (r < 256) ⌝ }
-{
-    x as u16
-}
-
-fn u16_in(s: &[u8], at: usize) -> u16
+// A field that lies in the slice whole, as whoever calls has shown.
+pub(crate) fn u16_in(s: &[u8], at: usize) -> u16
     requires { ⌜ at + 2 ≤ length (now s) ⌝ }
     ensures { λ r. ⌜ r ≡ leAt (now (s .entry)) at 2 ⌝ }
 {
-    let low = wide(s[at]);
-    let high = wide(s[at + 1]);
-    low + 256 * high
+    u16_of(s[at], s[at + 1])
 }
 
-fn u32_in(s: &[u8], at: usize) -> u32
+pub(crate) fn u32_in(s: &[u8], at: usize) -> u32
     requires { ⌜ at + 4 ≤ length (now s) ⌝ }
     ensures { λ r. ⌜ r ≡ leAt (now (s .entry)) at 4 ⌝ }
 {
-    let low = u16_in(s, at);
-    let high = u16_in(s, at + 2);
-    (low as u32) + (1 << 16) * (high as u32)
+    u32_of(s[at], s[at + 1], s[at + 2], s[at + 3])
 }
 
-fn u64_in(s: &[u8], at: usize) -> u64
+pub(crate) fn u64_in(s: &[u8], at: usize) -> u64
     requires { ⌜ at + 8 ≤ length (now s) ⌝ }
     ensures { λ r. ⌜ r ≡ leAt (now (s .entry)) at 8 ⌝ }
 {
-    let low = u32_in(s, at);
-    let high = u32_in(s, at + 4);
-    (low as u64) + (1 << 32) * (high as u64)
+    u64_of(
+        s[at],
+        s[at + 1],
+        s[at + 2],
+        s[at + 3],
+        s[at + 4],
+        s[at + 5],
+        s[at + 6],
+        s[at + 7],
+    )
 }
 
 pub fn u8_at(s: &[u8], at: usize) -> u8
@@ -91,7 +92,10 @@ pub fn u64_at(s: &[u8], at: usize) -> u64
 pub fn i32_at(s: &[u8], at: usize) -> i32
     ensures { λ r. ⌜ r ≡ toZ w32 (fieldAt (now (s .entry)) at 4) ⌝ }
 {
-    signed32(u32_at(s, at))
+    if left_at(s, at) < 4 {
+        return 0;
+    }
+    i32_of(s[at], s[at + 1], s[at + 2], s[at + 3])
 }
 
 // The n low bytes of x, the least first.

@@ -1,19 +1,14 @@
 // `Reader`: its methods as functions on the payload and the place. A read that would pass the end answers how many bytes it needed, counted from the
 // start, and how many were given; its value is then 0 and the place stays.
 ghost use mathlib.Core.Path.{_≡_};
-ghost use Prim.Native.Nat.{_-_};
-ghost use lib.ListN.{length, drop};
-ghost use Rattle.codec.specs.LittleEndian.{leBytes};
+ghost use Prim.Native.Nat.{_+_, _-_, _≤_};
+ghost use lib.ListN.{length, take, drop};
 ghost use Rattle.codec.specs.Reading.{neededFor, lengthAnswer, advanced, readU8, readU16, readU32, readU64, readBytes, readArray2, readArray4, readArray8};
 use crate::Place;
 use crate::fields::left_at;
-use crate::fields::put_u16;
-use crate::fields::put_u32;
-use crate::fields::put_u64;
-use crate::fields::u8_at;
-use crate::fields::u16_at;
-use crate::fields::u32_at;
-use crate::fields::u64_at;
+use crate::fields::u16_in;
+use crate::fields::u32_in;
+use crate::fields::u64_in;
 
 // Whether the payload has what a read asks for: the Rust's `MessageTooShort`, with its two lengths, where it has not.
 pub enum Length {
@@ -138,10 +133,17 @@ pub fn read_u8(s: &[u8], at: Place) -> ReadU8
     let a = advance(s, at, 1);
     let length = a.length;
     let place = a.place;
-    let value = u8_at(s, at.pos);
+    let Length::Enough = length else {
+        return ReadU8 {
+            length,
+            value: 0,
+            place,
+        };
+    };
+    let pos = at.pos;
     ReadU8 {
         length,
-        value,
+        value: s[pos],
         place,
     }
 }
@@ -152,10 +154,17 @@ pub fn read_u16_le(s: &[u8], at: Place) -> ReadU16
     let a = advance(s, at, 2);
     let length = a.length;
     let place = a.place;
-    let value = u16_at(s, at.pos);
+    let Length::Enough = length else {
+        return ReadU16 {
+            length,
+            value: 0,
+            place,
+        };
+    };
+    let pos = at.pos;
     ReadU16 {
         length,
-        value,
+        value: u16_in(s, pos),
         place,
     }
 }
@@ -166,10 +175,17 @@ pub fn read_u32_le(s: &[u8], at: Place) -> ReadU32
     let a = advance(s, at, 4);
     let length = a.length;
     let place = a.place;
-    let value = u32_at(s, at.pos);
+    let Length::Enough = length else {
+        return ReadU32 {
+            length,
+            value: 0,
+            place,
+        };
+    };
+    let pos = at.pos;
     ReadU32 {
         length,
-        value,
+        value: u32_in(s, pos),
         place,
     }
 }
@@ -180,10 +196,17 @@ pub fn read_u64_le(s: &[u8], at: Place) -> ReadU64
     let a = advance(s, at, 8);
     let length = a.length;
     let place = a.place;
-    let value = u64_at(s, at.pos);
+    let Length::Enough = length else {
+        return ReadU64 {
+            length,
+            value: 0,
+            place,
+        };
+    };
+    let pos = at.pos;
     ReadU64 {
         length,
-        value,
+        value: u64_in(s, pos),
         place,
     }
 }
@@ -210,29 +233,35 @@ pub fn read_bytes(s: &[u8], at: Place, n: usize) -> ReadBytes
     }
 }
 
-// The bytes of a field as an array.
-fn array_2(x: u16) -> [u8; 2]
-    ensures { λ r. ⌜ r ≡ leBytes 2 x ⌝ }
+// The bytes as they stand, of which whoever calls has shown that they are there.
+fn array_2(s: &[u8], at: usize) -> [u8; 2]
+    requires { ⌜ at + 2 ≤ length (now s) ⌝ }
+    ensures { λ r. ⌜ r ≡ take 2 (drop at (now (s .entry))) ⌝ }
 {
-    let mut b = [0u8; 2];
-    put_u16(&mut b, 0, x);
-    b
+    [s[at], s[at + 1]]
 }
 
-fn array_4(x: u32) -> [u8; 4]
-    ensures { λ r. ⌜ r ≡ leBytes 4 x ⌝ }
+fn array_4(s: &[u8], at: usize) -> [u8; 4]
+    requires { ⌜ at + 4 ≤ length (now s) ⌝ }
+    ensures { λ r. ⌜ r ≡ take 4 (drop at (now (s .entry))) ⌝ }
 {
-    let mut b = [0u8; 4];
-    put_u32(&mut b, 0, x);
-    b
+    [s[at], s[at + 1], s[at + 2], s[at + 3]]
 }
 
-fn array_8(x: u64) -> [u8; 8]
-    ensures { λ r. ⌜ r ≡ leBytes 8 x ⌝ }
+fn array_8(s: &[u8], at: usize) -> [u8; 8]
+    requires { ⌜ at + 8 ≤ length (now s) ⌝ }
+    ensures { λ r. ⌜ r ≡ take 8 (drop at (now (s .entry))) ⌝ }
 {
-    let mut b = [0u8; 8];
-    put_u64(&mut b, 0, x);
-    b
+    [
+        s[at],
+        s[at + 1],
+        s[at + 2],
+        s[at + 3],
+        s[at + 4],
+        s[at + 5],
+        s[at + 6],
+        s[at + 7],
+    ]
 }
 
 // `read_array`, one function for each width that the reports use.
@@ -242,10 +271,17 @@ pub fn read_array_2(s: &[u8], at: Place) -> ReadArray2
     let a = advance(s, at, 2);
     let length = a.length;
     let place = a.place;
-    let bytes = array_2(u16_at(s, at.pos));
+    let Length::Enough = length else {
+        return ReadArray2 {
+            length,
+            bytes: [0; 2],
+            place,
+        };
+    };
+    let pos = at.pos;
     ReadArray2 {
         length,
-        bytes,
+        bytes: array_2(s, pos),
         place,
     }
 }
@@ -256,10 +292,17 @@ pub fn read_array_4(s: &[u8], at: Place) -> ReadArray4
     let a = advance(s, at, 4);
     let length = a.length;
     let place = a.place;
-    let bytes = array_4(u32_at(s, at.pos));
+    let Length::Enough = length else {
+        return ReadArray4 {
+            length,
+            bytes: [0; 4],
+            place,
+        };
+    };
+    let pos = at.pos;
     ReadArray4 {
         length,
-        bytes,
+        bytes: array_4(s, pos),
         place,
     }
 }
@@ -270,10 +313,17 @@ pub fn read_array_8(s: &[u8], at: Place) -> ReadArray8
     let a = advance(s, at, 8);
     let length = a.length;
     let place = a.place;
-    let bytes = array_8(u64_at(s, at.pos));
+    let Length::Enough = length else {
+        return ReadArray8 {
+            length,
+            bytes: [0; 8],
+            place,
+        };
+    };
+    let pos = at.pos;
     ReadArray8 {
         length,
-        bytes,
+        bytes: array_8(s, pos),
         place,
     }
 }

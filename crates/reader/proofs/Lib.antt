@@ -1,4 +1,4 @@
--- The walks of functions over a held payload, and what decoding from a position comes to.
+-- The walks of functions over a held payload.
 mod Beside
 mod WrittenOut
 mod Held
@@ -8,4 +8,3 @@ mod PassedOn
 mod NewThenPassedOn
 mod MadeThenLent
 mod Questions
-pub mod DecodedFromPosition

@@ -1,3 +1,2 @@
 -- The definitions that the contracts of `reader` cite.
 pub mod Held
-pub mod Reports

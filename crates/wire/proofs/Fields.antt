@@ -1,13 +1,17 @@
--- A field of two payloads that are alike, and the bytes of fields that stand one after the other.
-use Prim.Native.Nat.{ℕ, _+_, _≤_}
+-- A part of a payload, a field of two payloads that are alike, and the bytes of fields that stand one after the other.
+use Prim.Native.Nat.{ℕ, _+_, _-_, _≤_}
 use mathlib.Core.Path.{_≡_, sym, ap, ap₂, _∙_}
 use mathlib.Core.List.{List, _++_, append-assoc}
-use lib.ListN.{length, take, drop}
-use lib.Seq.{take-add, drop-drop}
+use lib.ListN.{length, take, drop, length-drop}
+use lib.Seq.{take-add, take-all, drop-drop}
 use native.Mathlib.Omega.{arith}
 use Rattle.codec.specs.LittleEndian.{leBytes, fieldAt}
 use Rattle.codec.proofs.Widths.{field-here, read-alike, bytes-read}
 use Rattle.wire.specs.Payload.{AlikeOn, Bytes}
+
+-- `&s[pos..]` is the payload without its first bytes
+pub part-whole : (s : List ℕ) (pos : ℕ) → take (length s - pos) (drop pos s) ≡ drop pos s
+part-whole s pos = take-all (length s - pos) (drop pos s) (omega (arith, length-drop pos s))
 
 -- a field that lies where two payloads are alike
 pub field-alike : (s t : List ℕ) (from to at n : ℕ) → AlikeOn s t from to → from ≤ at → at + n ≤ to → to ≤ length s → to ≤ length t → fieldAt s at n ≡ fieldAt t at n

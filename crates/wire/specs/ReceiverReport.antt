@@ -5,6 +5,7 @@ use mathlib.Core.List.{List, [], _∷_, _++_}
 use lib.IntN.{pos}
 use mir.Syntax.{w32}
 use mir.Val.{SFits, toZ, ofZ}
+use lib.ListN.{drop}
 use Rattle.codec.specs.LittleEndian.{leBytes, fieldAt}
 use Rattle.codec.specs.Reading.{lengthAnswer, valuesOf, byLength}
 use Rattle.codec.specs.declared.reader.Length.{Length}
@@ -95,6 +96,10 @@ accepted r = decodedBy Enough r
 -- a payload of at least 67 bytes is read; anything past them is ignored
 unfoldable pub decoded : List ℕ → ReceiverReportDecoded
 decoded s = decodedBy (lengthAnswer s 0 67) (reportIn s)
+
+-- the same from a position on: the needed length is counted from the payload's start
+unfoldable pub decodedAt : List ℕ → ℕ → ReceiverReportDecoded
+decodedAt s at = decodedBy (lengthAnswer s at 67) (reportIn (drop at s))
 
 -- what every ReceiverReport of the code keeps: each field fits its type
 pub record Fits (r : ReceiverReport) : Type 0 where

@@ -1,6 +1,7 @@
 -- SenderReport, 48 bytes (document 01, "Report bytes"): start counter 8, end counter 8, start time 4, end time 4, interval bytes 4, packets 8, bytes 8. Definitions only.
 use Prim.Native.Nat.{ℕ, _^_, _<_}
 use mathlib.Core.List.{List, [], _∷_, _++_}
+use lib.ListN.{drop}
 use Rattle.codec.specs.LittleEndian.{leBytes, fieldAt}
 use Rattle.codec.specs.Reading.{lengthAnswer, valuesOf, byLength}
 use Rattle.codec.specs.declared.reader.Length.{Length}
@@ -69,6 +70,10 @@ accepted r = decodedBy Enough r
 -- a payload of at least 47 bytes is read; anything past them is ignored
 unfoldable pub decoded : List ℕ → SenderReportDecoded
 decoded s = decodedBy (lengthAnswer s 0 47) (reportIn s)
+
+-- the same from a position on: the needed length is counted from the payload's start
+unfoldable pub decodedAt : List ℕ → ℕ → SenderReportDecoded
+decodedAt s at = decodedBy (lengthAnswer s at 47) (reportIn (drop at s))
 
 -- what every SenderReport of the code keeps: each field fits its type
 pub record Fits (r : SenderReport) : Type 0 where

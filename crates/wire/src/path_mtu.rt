@@ -1,9 +1,9 @@
 // PathMtuNotification (2 bytes).
 ghost use mathlib.Core.Path.{_≡_};
 ghost use Rattle.wire.specs.PathMtu.{notification, decoded, encodeAnswer, encodedInto};
+use crate::payload::u16_in;
 use codec::Place;
 use codec::fields::put_u16;
-use codec::fields::u16_at;
 use codec::reader::Length;
 use codec::reader::require;
 
@@ -53,7 +53,7 @@ impl PathMtuNotification {
             needed: 0,
             given: 0,
             notification: PathMtuNotification {
-                path_mtu: u16_at(body, 0),
+                path_mtu: u16_in(body, 0),
             },
         }
     }

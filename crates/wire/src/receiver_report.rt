@@ -1,18 +1,21 @@
 // ReceiverReport (msg_type 0x02, 68 bytes including the type byte).
 ghost use mathlib.Core.Path.{_≡_};
-ghost use Rattle.wire.specs.ReceiverReport.{reportIn, noReport, decoded, encoded, encodeAnswer, encodedInto};
+ghost use Prim.Native.Nat.{_≤_};
+ghost use lib.ListN.{length};
+ghost use Rattle.wire.specs.ReceiverReport.{reportIn, noReport, decoded, decodedAt, encoded, encodeAnswer, encodedInto};
 ghost use Rattle.wire.specs.Blocks.{withCounts, withBursts, withDelay, withInterval};
+use crate::payload::i32_in;
+use crate::payload::u16_in;
+use crate::payload::u32_in;
+use crate::payload::u64_in;
 use codec::Place;
-use codec::fields::i32_at;
 use codec::fields::put_i32;
 use codec::fields::put_u8;
 use codec::fields::put_u16;
 use codec::fields::put_u32;
 use codec::fields::put_u64;
-use codec::fields::u16_at;
-use codec::fields::u32_at;
-use codec::fields::u64_at;
 use codec::reader::Length;
+use codec::reader::needed_for;
 use codec::reader::require;
 
 pub struct ReceiverReport {
@@ -57,20 +60,7 @@ impl ReceiverReport {
     pub fn decode(payload: &[u8]) -> ReceiverReportDecoded
         ensures { λ r. ⌜ r ≡ decoded (now (payload .entry)) ⌝ }
     {
-        let Length::Enough = require(payload, Place { pos: 0 }, 67) else {
-            return ReceiverReportDecoded {
-                refusal: 7,
-                needed: 67,
-                given: payload.len(),
-                report: no_report(),
-            };
-        };
-        ReceiverReportDecoded {
-            refusal: 0,
-            needed: 0,
-            given: 0,
-            report: report_in(payload),
-        }
+        decode_at(payload, 0)
     }
 }
 
@@ -95,26 +85,47 @@ pub fn no_report() -> ReceiverReport
     }
 }
 
-// The fields, 0 where one does not lie in the payload whole: for a caller that has asked for the length.
-pub fn report_in(s: &[u8]) -> ReceiverReport
+// The report from a position of the payload on; the needed length is counted from the payload's start.
+pub fn decode_at(payload: &[u8], pos: usize) -> ReceiverReportDecoded
+    ensures { λ r. ⌜ r ≡ decodedAt (now (payload .entry)) pos ⌝ }
+{
+    let Length::Enough = require(payload, Place { pos }, 67) else {
+        return ReceiverReportDecoded {
+            refusal: 7,
+            needed: needed_for(pos, 67),
+            given: payload.len(),
+            report: no_report(),
+        };
+    };
+    ReceiverReportDecoded {
+        refusal: 0,
+        needed: 0,
+        given: 0,
+        report: report_in(&payload[pos..]),
+    }
+}
+
+// The fields of a payload whose length has been asked for.
+fn report_in(s: &[u8]) -> ReceiverReport
+    requires { ⌜ 67 ≤ length (now s) ⌝ }
     ensures { λ r. ⌜ r ≡ reportIn (now (s .entry)) ⌝ }
 {
     ReceiverReport {
-        highest_counter: u64_at(s, 3),
-        cumulative_packets_recv: u64_at(s, 11),
-        cumulative_bytes_recv: u64_at(s, 19),
-        timestamp_echo: u32_at(s, 27),
-        dwell_time: u16_at(s, 31),
-        max_burst_loss: u16_at(s, 33),
-        mean_burst_loss: u16_at(s, 35),
+        highest_counter: u64_in(s, 3),
+        cumulative_packets_recv: u64_in(s, 11),
+        cumulative_bytes_recv: u64_in(s, 19),
+        timestamp_echo: u32_in(s, 27),
+        dwell_time: u16_in(s, 31),
+        max_burst_loss: u16_in(s, 33),
+        mean_burst_loss: u16_in(s, 35),
         // 37 and 38 are reserved
-        jitter: u32_at(s, 39),
-        ecn_ce_count: u32_at(s, 43),
-        owd_trend: i32_at(s, 47),
-        burst_loss_count: u32_at(s, 51),
-        cumulative_reorder_count: u32_at(s, 55),
-        interval_packets_recv: u32_at(s, 59),
-        interval_bytes_recv: u32_at(s, 63),
+        jitter: u32_in(s, 39),
+        ecn_ce_count: u32_in(s, 43),
+        owd_trend: i32_in(s, 47),
+        burst_loss_count: u32_in(s, 51),
+        cumulative_reorder_count: u32_in(s, 55),
+        interval_packets_recv: u32_in(s, 59),
+        interval_bytes_recv: u32_in(s, 63),
     }
 }
 

@@ -1,14 +1,17 @@
 // SenderReport (msg_type 0x01, 48 bytes including the type byte).
 ghost use mathlib.Core.Path.{_≡_};
-ghost use Rattle.wire.specs.SenderReport.{reportIn, noReport, decoded, encoded, encodeAnswer, encodedInto};
+ghost use Prim.Native.Nat.{_≤_};
+ghost use lib.ListN.{length};
+ghost use Rattle.wire.specs.SenderReport.{reportIn, noReport, decoded, decodedAt, encoded, encodeAnswer, encodedInto};
 ghost use Rattle.wire.specs.Blocks.{withCounters, withTimes, withTotals};
+use crate::payload::u32_in;
+use crate::payload::u64_in;
 use codec::Place;
 use codec::fields::put_u8;
 use codec::fields::put_u32;
 use codec::fields::put_u64;
-use codec::fields::u32_at;
-use codec::fields::u64_at;
 use codec::reader::Length;
+use codec::reader::needed_for;
 use codec::reader::require;
 
 #[repr(C)]
@@ -47,20 +50,7 @@ impl SenderReport {
     pub fn decode(payload: &[u8]) -> SenderReportDecoded
         ensures { λ r. ⌜ r ≡ decoded (now (payload .entry)) ⌝ }
     {
-        let Length::Enough = require(payload, Place { pos: 0 }, 47) else {
-            return SenderReportDecoded {
-                refusal: 7,
-                needed: 47,
-                given: payload.len(),
-                report: no_report(),
-            };
-        };
-        SenderReportDecoded {
-            refusal: 0,
-            needed: 0,
-            given: 0,
-            report: report_in(payload),
-        }
+        decode_at(payload, 0)
     }
 }
 
@@ -79,18 +69,39 @@ pub fn no_report() -> SenderReport
     }
 }
 
-// The fields, 0 where one does not lie in the payload whole: for a caller that has asked for the length.
-pub fn report_in(s: &[u8]) -> SenderReport
+// The report from a position of the payload on; the needed length is counted from the payload's start.
+pub fn decode_at(payload: &[u8], pos: usize) -> SenderReportDecoded
+    ensures { λ r. ⌜ r ≡ decodedAt (now (payload .entry)) pos ⌝ }
+{
+    let Length::Enough = require(payload, Place { pos }, 47) else {
+        return SenderReportDecoded {
+            refusal: 7,
+            needed: needed_for(pos, 47),
+            given: payload.len(),
+            report: no_report(),
+        };
+    };
+    SenderReportDecoded {
+        refusal: 0,
+        needed: 0,
+        given: 0,
+        report: report_in(&payload[pos..]),
+    }
+}
+
+// The fields of a payload whose length has been asked for.
+fn report_in(s: &[u8]) -> SenderReport
+    requires { ⌜ 47 ≤ length (now s) ⌝ }
     ensures { λ r. ⌜ r ≡ reportIn (now (s .entry)) ⌝ }
 {
     SenderReport {
-        interval_start_counter: u64_at(s, 3),
-        interval_end_counter: u64_at(s, 11),
-        interval_start_timestamp: u32_at(s, 19),
-        interval_end_timestamp: u32_at(s, 23),
-        interval_bytes_sent: u32_at(s, 27),
-        cumulative_packets_sent: u64_at(s, 31),
-        cumulative_bytes_sent: u64_at(s, 39),
+        interval_start_counter: u64_in(s, 3),
+        interval_end_counter: u64_in(s, 11),
+        interval_start_timestamp: u32_in(s, 19),
+        interval_end_timestamp: u32_in(s, 23),
+        interval_bytes_sent: u32_in(s, 27),
+        cumulative_packets_sent: u64_in(s, 31),
+        cumulative_bytes_sent: u64_in(s, 39),
     }
 }
 

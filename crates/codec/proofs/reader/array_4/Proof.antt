@@ -1,9 +1,12 @@
 -- `codec::reader::array_4` meets its contract.
 use borrow.Author.Needs.{needs}
-use mathlib.Core.Path.{_∙_}
-use Rattle.codec.proofs.Stores.{fresh}
+use Rattle.codec.proofs.Weights.{listed, taken}
 use Rattle.codec.proofs.reader.array_4.Statement.{statement}
 use Rattle.codec.proofs.reader.array_4.Tie as tie
 
+returns : tie.Need-returns
+unfolding listed
+returns c = let b = c .before .before .before .before in taken (b .args .s .now) (b .args .at) 3 (b .pre)
+
 pub array-4-spec : {M : Type 1} → statement M
-array-4-spec = tie.close (tie.spec (λ c. search needs) (λ c κs. search needs) (λ c. c .before .put-u32 .ensures ∙ fresh 4 _))
+array-4-spec = tie.close (tie.spec (λ c. search needs) (λ c. search needs) (λ c. search needs) (λ c. search needs) (λ c. search needs) (λ c. search needs) (λ c. search needs) returns)

@@ -1,9 +1,12 @@
 -- `codec::reader::array_8` meets its contract.
 use borrow.Author.Needs.{needs}
-use mathlib.Core.Path.{_∙_}
-use Rattle.codec.proofs.Stores.{fresh}
+use Rattle.codec.proofs.Weights.{listed, taken}
 use Rattle.codec.proofs.reader.array_8.Statement.{statement}
 use Rattle.codec.proofs.reader.array_8.Tie as tie
 
+returns : tie.Need-returns
+unfolding listed
+returns c = let b = c .before .before .before .before .before .before .before .before in taken (b .args .s .now) (b .args .at) 7 (b .pre)
+
 pub array-8-spec : {M : Type 1} → statement M
-array-8-spec = tie.close (tie.spec (λ c. search needs) (λ c κs. search needs) (λ c. c .before .put-u64 .ensures ∙ fresh 8 _))
+array-8-spec = tie.close (tie.spec (λ c. search needs) (λ c. search needs) (λ c. search needs) (λ c. search needs) (λ c. search needs) (λ c. search needs) (λ c. search needs) (λ c. search needs) (λ c. search needs) (λ c. search needs) (λ c. search needs) (λ c. search needs) (λ c. search needs) (λ c. search needs) (λ c. search needs) returns)

@@ -11,20 +11,20 @@ returns : tie.Need-returns
 unfolding reportIn
 returns c i =
     record {
-      «highest_counter» = c .before .before .before .before .before .before .before .before .before .before .before .before .before .u64-at .ensures i;
-      «cumulative_packets_recv» = c .before .before .before .before .before .before .before .before .before .before .before .before .u64-at2 .ensures i;
-      «cumulative_bytes_recv» = c .before .before .before .before .before .before .before .before .before .before .before .u64-at3 .ensures i;
-      «timestamp_echo» = c .before .before .before .before .before .before .before .before .before .before .u32-at .ensures i;
-      «dwell_time» = c .before .before .before .before .before .before .before .before .before .u16-at .ensures i;
-      «max_burst_loss» = c .before .before .before .before .before .before .before .before .u16-at2 .ensures i;
-      «mean_burst_loss» = c .before .before .before .before .before .before .before .u16-at3 .ensures i;
-      jitter = c .before .before .before .before .before .before .u32-at2 .ensures i;
-      «ecn_ce_count» = c .before .before .before .before .before .u32-at3 .ensures i;
-      «owd_trend» = (toZ-ofZ {w = w32} (record { sfits = c .before .before .before .before .i32-at .ok }) ∙ c .before .before .before .before .i32-at .ensures) i;
-      «burst_loss_count» = c .before .before .before .u32-at4 .ensures i;
-      «cumulative_reorder_count» = c .before .before .u32-at5 .ensures i;
-      «interval_packets_recv» = c .before .u32-at6 .ensures i;
-      «interval_bytes_recv» = c .u32-at7 .ensures i;
+      «highest_counter» = c .before .before .before .before .before .before .before .before .before .before .before .before .before .u64-in .ensures i;
+      «cumulative_packets_recv» = c .before .before .before .before .before .before .before .before .before .before .before .before .u64-in2 .ensures i;
+      «cumulative_bytes_recv» = c .before .before .before .before .before .before .before .before .before .before .before .u64-in3 .ensures i;
+      «timestamp_echo» = c .before .before .before .before .before .before .before .before .before .before .u32-in .ensures i;
+      «dwell_time» = c .before .before .before .before .before .before .before .before .before .u16-in .ensures i;
+      «max_burst_loss» = c .before .before .before .before .before .before .before .before .u16-in2 .ensures i;
+      «mean_burst_loss» = c .before .before .before .before .before .before .before .u16-in3 .ensures i;
+      jitter = c .before .before .before .before .before .before .u32-in2 .ensures i;
+      «ecn_ce_count» = c .before .before .before .before .before .u32-in3 .ensures i;
+      «owd_trend» = (toZ-ofZ {w = w32} (record { sfits = c .before .before .before .before .i32-in .ok }) ∙ c .before .before .before .before .i32-in .ensures) i;
+      «burst_loss_count» = c .before .before .before .u32-in4 .ensures i;
+      «cumulative_reorder_count» = c .before .before .u32-in5 .ensures i;
+      «interval_packets_recv» = c .before .u32-in6 .ensures i;
+      «interval_bytes_recv» = c .u32-in7 .ensures i;
     }
 
 pub report-in-spec : {M : Type 1} → statement M

@@ -8,13 +8,13 @@ returns : tie.Need-returns
 unfolding reportIn
 returns c i =
     record {
-      «interval_start_counter» = c .before .before .before .before .before .before .u64-at .ensures i;
-      «interval_end_counter» = c .before .before .before .before .before .u64-at2 .ensures i;
-      «interval_start_timestamp» = c .before .before .before .before .u32-at .ensures i;
-      «interval_end_timestamp» = c .before .before .before .u32-at2 .ensures i;
-      «interval_bytes_sent» = c .before .before .u32-at3 .ensures i;
-      «cumulative_packets_sent» = c .before .u64-at3 .ensures i;
-      «cumulative_bytes_sent» = c .u64-at4 .ensures i;
+      «interval_start_counter» = c .before .before .before .before .before .before .u64-in .ensures i;
+      «interval_end_counter» = c .before .before .before .before .before .u64-in2 .ensures i;
+      «interval_start_timestamp» = c .before .before .before .before .u32-in .ensures i;
+      «interval_end_timestamp» = c .before .before .before .u32-in2 .ensures i;
+      «interval_bytes_sent» = c .before .before .u32-in3 .ensures i;
+      «cumulative_packets_sent» = c .before .u64-in3 .ensures i;
+      «cumulative_bytes_sent» = c .u64-in4 .ensures i;
     }
 
 pub report-in-spec : {M : Type 1} → statement M
