@@ -51,6 +51,8 @@ fn main() {
     reports::sender();
     reports::receiver();
     reports::path_mtu();
+    reports::in_place();
+    reports::least_trend();
     reports::no_room();
     reports::too_short();
     lines::heading(b"sending\n");

@@ -99,6 +99,42 @@ pub fn path_mtu() {
     );
 }
 
+// Every byte of a field counts in its place, the least significant first: the payload is a row of letters.
+pub fn in_place() {
+    letters(b"0123456789abcdefghijklmnopqrstuvwxyzABCDEFGHIJKLMNOPQRSTUVWXYZ.:/-!")
+}
+
+fn letters(payload: &[u8]) {
+    let sent = SenderReport::decode(payload);
+    number(
+        b"start counter of the bytes 3456789a",
+        sent.report.interval_start_counter,
+        7005692505135330355,
+    );
+    number(
+        b"start time of the bytes jklm",
+        sent.report.interval_start_timestamp as u64,
+        1835821930,
+    );
+    number(
+        b"path MTU of the bytes 01",
+        PathMtuNotification::decode(payload).notification.path_mtu as u64,
+        12592,
+    );
+}
+
+// The least number of a signed field: put together as an i32, its last byte would overflow.
+pub fn least_trend() {
+    let mut payload = [0u8; 67];
+    payload[50] = 128;
+    let d = ReceiverReport::decode(&payload);
+    number(
+        b"trend of the bytes 00 00 00 80 is -2147483648",
+        (d.report.owd_trend == -2147483648) as u64,
+        1,
+    );
+}
+
 // Number 6 for a buffer that is too short, and nothing written.
 pub fn no_room() {
     let mut buffer = [9u8; 67];
