@@ -36,7 +36,7 @@ fn pool() -> Vec<u64> {
 fn random_case(rng: &mut Rng, call: u64) -> Case {
     match call {
         101..=129 => codec::random_case(rng, call),
-        141..=155 => fields::random_case(rng, call),
+        141..=159 => fields::random_case(rng, call),
         161..=175 => held::random_case(rng, call),
         201..=207 => wire::random_case(rng, call),
         301..=357 => algorithms::random_case(rng, call),

@@ -90,7 +90,7 @@ fn reply_on(given: &[u64], bytes: &mut [u8]) -> Reply {
     match u64_of(given, 0) {
         101..=112 => reader_calls::answer(given, bytes),
         121..=128 => writer_calls::answer(given, bytes),
-        141..=155 => field_calls::answer(given, bytes),
+        141..=159 => field_calls::answer(given, bytes),
         161..=175 => held_calls::answer(given, bytes),
         _ => wire_calls::answer(given, bytes),
     }

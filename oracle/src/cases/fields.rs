@@ -1,4 +1,4 @@
-//! Calls 141 to 155: little-endian fields, which the commit reads and writes by `from_le_bytes` and `to_le_bytes`.
+//! Calls 141 to 159: little-endian fields, which the commit reads and writes by `from_le_bytes` and `to_le_bytes`.
 
 use crate::cases::codec::{place, places};
 use crate::script::case::{pattern, Case, Numbers};
@@ -53,9 +53,23 @@ fn bits32(z: i32) -> Case {
     Case::new(Numbers::of(&[148, pattern(z)]), (answer, false))
 }
 
+/// A field from its bytes: as many as the call takes.
+fn word(call: u64, b: [u8; 8]) -> Case {
+    let [b0, b1, b2, b3, ..] = b;
+    let (n, value) = match call {
+        156 => (2, u16::from_le_bytes([b0, b1]).into()),
+        157 => (4, u32::from_le_bytes([b0, b1, b2, b3]).into()),
+        158 => (8, u64::from_le_bytes(b)),
+        _ => (4, pattern(i32::from_le_bytes([b0, b1, b2, b3]))),
+    };
+    let line = b[..n].iter().fold(Numbers::of(&[call]), |line, byte| line.and(&[(*byte).into()]));
+    Case::new(line, (Numbers::of(&[value]), false))
+}
+
 /// A call that stores a number, and how many bytes that has.
 const PUTS: [(u64, usize); 5] = [(151, 1), (152, 2), (153, 4), (154, 8), (155, 4)];
 const FIELDS: [u64; 6] = [141, 142, 143, 144, 145, 146];
+const WORDS: [u64; 4] = [156, 157, 158, 159];
 
 /// The number as the call's line has it.
 fn given(call: u64, v: u64) -> u64 {
@@ -88,6 +102,12 @@ pub fn boundary_cases(rng: &mut Rng) -> Vec<Case> {
             cases.extend(FIELDS.iter().map(|call| field_at(*call, 0, &v.to_le_bytes())));
         }
     }
+    for call in WORDS {
+        for n in [2, 4, 8] {
+            cases.extend(boundaries(n).iter().map(|v| word(call, v.to_le_bytes())));
+        }
+        cases.extend((0..64).map(|bit| word(call, (1u64 << bit).to_le_bytes())));
+    }
     cases.extend(boundaries(4).iter().map(|x| signed32(*x as u32)));
     cases.extend(boundaries(4).iter().map(|x| bits32(*x as i32)));
     cases
@@ -99,6 +119,7 @@ pub fn random_case(rng: &mut Rng, call: u64) -> Case {
     match call {
         147 => signed32(rng.number(4) as u32),
         148 => bits32(rng.number(4) as i32),
+        156..=159 => word(call, rng.number(8).to_le_bytes()),
         151..=155 => {
             let (_, n) = PUTS[(call - 151) as usize];
             let v = rng.number(n);

@@ -1,7 +1,7 @@
-//! Calls 161 to 175: codec.rs, the `Reader` that holds its payload, the reports that it decodes, and what its decoders are made of.
+//! Calls 161 to 175: codec.rs, the `Reader` that holds its payload, the reports that it decodes, and what it is made of.
 
 use crate::cases::codec::{length_at, place, plain_answer, rest_at};
-use crate::cases::wire::{receiver_fields, sender_fields, RECEIVER, SENDER};
+use crate::cases::wire::{receiver_fields, sender_fields};
 use crate::proto::mmp::wire::{ReceiverReport, SenderReport};
 use crate::script::case::{Case, Numbers};
 use crate::script::rng::Rng;
@@ -9,10 +9,9 @@ use crate::script::rng::Rng;
 /// The calls on a slice and a place that do the same reads.
 const READS: [u64; 7] = [105, 106, 107, 108, 110, 111, 112];
 
-/// The payloads' lengths, and where their fields stand: the receiver's has two reserved bytes behind its seventh.
+/// The payloads' lengths.
 const SENDER_BYTES: usize = 47;
 const RECEIVER_BYTES: usize = 67;
-const RESERVED: usize = 37;
 
 fn read(call: u64, pos: usize, payload: &[u8]) -> Case {
     let answer = plain_answer(READS[(call - 161) as usize], pos, payload);
@@ -48,32 +47,6 @@ fn decode(call: u64, pos: usize, payload: &[u8]) -> Case {
     Case::new(Numbers::of(&line).buffer(payload), (answer, by_rule))
 }
 
-/// A payload of n bytes with the fields of this one that lie in it whole, and 0 for every other.
-fn whole_fields(payload: &[u8], n: usize, widths: &[usize]) -> Vec<u8> {
-    let (mut all, mut at) = (vec![0; n], 3);
-    for width in widths {
-        if at == RESERVED {
-            at += 2;
-        }
-        if at + width <= payload.len() {
-            all[at..at + width].copy_from_slice(&payload[at..at + width]);
-        }
-        at += width;
-    }
-    all
-}
-
-fn report_in(call: u64, payload: &[u8]) -> Case {
-    let (n, fields) = match call {
-        172 => (SENDER_BYTES, Numbers::of(&sender_in(&whole_fields(payload, SENDER_BYTES, &SENDER)))),
-        _ => (
-            RECEIVER_BYTES,
-            Numbers::of(&receiver_in(&whole_fields(payload, RECEIVER_BYTES, &RECEIVER))),
-        ),
-    };
-    Case::new(Numbers::of(&[call]).buffer(payload), (fields, payload.len() < n))
-}
-
 fn needed_for(pos: usize, n: usize) -> Case {
     let needed = pos.saturating_add(n);
     Case::new(Numbers::of(&[174, pos as u64, n as u64]), (Numbers::of(&[needed as u64]), true))
@@ -107,7 +80,6 @@ pub fn boundary_cases(rng: &mut Rng) -> Vec<Case> {
     for len in 0..=80 {
         let payload = rng.bytes(len);
         cases.extend([168, 169].map(|call| decode(call, 0, &payload)));
-        cases.extend([172, 173].map(|call| report_in(call, &payload)));
         cases.push(remaining(&payload));
         for pos in [
             0,
@@ -135,7 +107,6 @@ pub fn random_case(rng: &mut Rng, call: u64) -> Case {
         161..=167 => read(call, place(rng, len, 8), &payload),
         168 | 169 => decode(call, 0, &payload),
         170 | 171 => decode(call, place(rng, len, 67.min(len)), &payload),
-        172 | 173 => report_in(call, &payload),
         175 => remaining(&payload),
         _ => needed_for(rng.number(8) as usize, rng.number(8) as usize),
     }

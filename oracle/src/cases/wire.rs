@@ -6,7 +6,7 @@ use crate::script::case::{pattern, Case, Numbers};
 use crate::script::rng::{boundaries, Rng};
 
 /// The widths of the reports' fields.
-pub const SENDER: [usize; 7] = [8, 8, 4, 4, 4, 8, 8];
+const SENDER: [usize; 7] = [8, 8, 4, 4, 4, 8, 8];
 pub const RECEIVER: [usize; 14] = [8, 8, 8, 4, 2, 2, 2, 4, 4, 4, 4, 4, 4, 4];
 /// The receiver's signed field, the one-way delay trend.
 const TREND: usize = 9;

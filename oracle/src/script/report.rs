@@ -10,6 +10,12 @@ use crate::script::tables::{call, Part};
 /// How many differing lines are printed in full.
 const SHOWN: usize = 10;
 
+/// The decoders of a payload, with the place of its length in their lines.
+const DECODERS: [(u64, usize); 7] = [(168, 1), (169, 1), (170, 2), (171, 2), (202, 1), (204, 1), (207, 1)];
+
+/// The payloads that are counted by their length.
+const LONGEST: usize = 80;
+
 /// Cases of a call, by what settles the answer.
 #[derive(Default, Clone, Copy)]
 struct Count {
@@ -47,6 +53,8 @@ pub struct Report {
     late: [[usize; 2]; 2],
     /// The full windows whose trend the commit settles, by call: their sizes, not wrapped and wrapped.
     windows: BTreeMap<u64, [BTreeSet<usize>; 2]>,
+    /// The payloads decoded, by call: how many, and their lengths up to `LONGEST`.
+    payloads: BTreeMap<u64, (usize, BTreeSet<usize>)>,
     shown: usize,
 }
 
@@ -80,6 +88,12 @@ impl Report {
             }
             if let Some((size, wrapped)) = case.window {
                 self.windows.entry(case.call).or_default()[usize::from(wrapped)].insert(size);
+            }
+            if let Some((call, place)) = DECODERS.iter().find(|(call, _)| *call == case.call) {
+                let length = case.line.split(' ').nth(*place).and_then(|word| word.parse::<usize>().ok());
+                let (many, lengths) = self.payloads.entry(*call).or_default();
+                *many += 1;
+                lengths.extend(length.filter(|n| *n <= LONGEST));
             }
             let expected = case.expected(i + 1);
             let answer = answers.next();
@@ -127,6 +141,13 @@ impl Report {
         println!(
             "late frames on a receiver, accepted: {one} behind by 1 and {more} by more; of these {raised_one} and {raised_more} raise the greatest lateness"
         );
+        for (call, (many, lengths)) in &self.payloads {
+            println!(
+                "payloads that {call} decodes: {many}, of {} of the {} lengths from 0 to {LONGEST}",
+                lengths.len(),
+                LONGEST + 1
+            );
+        }
         for (call, [straight, wrapped]) in &self.windows {
             println!(
                 "full windows of 2 to {MAX_WINDOW} whose trend {call} tells: {} of {} sizes not wrapped, {} wrapped",

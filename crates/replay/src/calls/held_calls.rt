@@ -1,4 +1,4 @@
-// Calls 161 to 175: the reader that holds its payload, and what its decoders are made of.
+// Calls 161 to 175: the reader that holds its payload, and what it is made of.
 use crate::calls::reader_calls::of_array_2;
 use crate::calls::reader_calls::of_array_4;
 use crate::calls::reader_calls::of_array_8;
@@ -6,8 +6,6 @@ use crate::calls::reader_calls::of_u8;
 use crate::calls::reader_calls::of_u16;
 use crate::calls::reader_calls::of_u32;
 use crate::calls::reader_calls::of_u64;
-use crate::calls::wire_calls::and_receiver_report;
-use crate::calls::wire_calls::and_sender_report;
 use crate::calls::wire_calls::of_receiver;
 use crate::calls::wire_calls::of_sender;
 use crate::reply::Reply;
@@ -25,8 +23,6 @@ pub fn answer(given: &[u64], payload: &[u8]) -> Reply {
     match u64_of(given, 0) {
         161..=167 => read(given, payload),
         168..=171 => decoded(given, payload),
-        172 => and_sender_report(Reply::new(), sender_report::report_in(payload)),
-        173 => and_receiver_report(Reply::new(), receiver_report::report_in(payload)),
         174 => one(wide(needed_for(usize_of(given, 1), usize_of(given, 2)))),
         _ => one(wide(reads::remaining(payload))),
     }
@@ -50,7 +46,7 @@ fn decoded(given: &[u64], payload: &[u8]) -> Reply {
     match u64_of(given, 0) {
         168 => of_sender(reports::decode_sender_report(payload)),
         169 => of_receiver(reports::decode_receiver_report(payload)),
-        170 => of_sender(reports::decode_sender_report_at(payload, pos)),
-        _ => of_receiver(reports::decode_receiver_report_at(payload, pos)),
+        170 => of_sender(sender_report::decode_at(payload, pos)),
+        _ => of_receiver(receiver_report::decode_at(payload, pos)),
     }
 }
