@@ -138,7 +138,7 @@ fn byte_at(s: &[u8], i: usize) -> u64 {
     0
 }
 
-fn store(s: &mut [u8], i: usize, b: u8) {
+pub fn store(s: &mut [u8], i: usize, b: u8) {
     if i < s.len() {
         s[i] = b;
     }

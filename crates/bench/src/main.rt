@@ -1,8 +1,10 @@
 // Runs a call of `wire`, `algorithms` or a record many times, and writes a checksum of what it answered. Arguments: the call's number, as in
-// docs/REPLAY.md, how often, and a count of turns whose checksum is taken off again (0). Calls 0, 300, 400, 500 and 600 are the loops alone. The trend, 334, is
+// docs/REPLAY.md, how often, a count of turns whose checksum is taken off again (0), and by how many bytes the payloads of the second loop of decoders are shorter
+// than 67 (0). Calls 0, 100, 300, 400, 500 and 600 are the loops alone. The decoders, 202, 204 and 207, know the payload's length where they are compiled, and as 1202, 1204 and 1207 do not. The trend, 334, is
 // over 32 pairs, and as 1334 over 256, the most that a window holds; a frame, 504, is sampled, and as 1504 not; a report processed, 603, is fresh, and as 1603 late. oracle/src/bin/bench is
 // the same program over the commit's Rust.
 mod calls;
+mod decoded;
 mod estimators;
 mod processed;
 mod received;
@@ -51,6 +53,20 @@ fn run(call: u64, count: u64, payload: &mut [u8], out: &mut [u8]) -> u64 {
     let mut left = count;
     while left > 0 {
         turn = calls::turn(call, turn, payload, out);
+        left -= 1;
+    }
+    turn.sum
+}
+
+fn run_decoded(call: u64, count: u64, payload: &mut [u8], lengths: &mut [usize]) -> u64 {
+    let arm = decoded::arm(call);
+    let mut turn = Progress {
+        random: START,
+        sum: 0,
+    };
+    let mut left = count;
+    while left > 0 {
+        turn = decoded::turn(arm, turn, payload, lengths);
         left -= 1;
     }
     turn.sum
@@ -131,6 +147,20 @@ fn reports_sum(call: u64, count: u64) -> u64 {
     run(call, count, &mut payload, &mut out)
 }
 
+// The length of a payload that lacks some of 67 bytes.
+fn lacking(short: u64) -> usize {
+    if short <= 67 {
+        return (67 - short) as usize;
+    }
+    0
+}
+
+fn decoded_sum(call: u64, count: u64, short: u64) -> u64 {
+    let mut payload = [0u8; 80];
+    let mut lengths = [lacking(short); 8];
+    run_decoded(call, count, &mut payload, &mut lengths)
+}
+
 fn received_sum(call: u64, count: u64) -> u64 {
     let mut numbers = [0u64; 64];
     let mut times = [0u32; 32];
@@ -144,10 +174,24 @@ fn processed_sum(call: u64, count: u64) -> u64 {
     run_processed(call, count, &mut numbers, &mut floats)
 }
 
-// A call's number less its thousands says whose it is. A loop has two callers, so that the compiler keeps it a function of its own: in one function with the
+// A call's number less its thousands says whose loop it is in, but for the decoders that do not know the length.
+fn loop_of(call: u64) -> u64 {
+    match call {
+        1202 => 1,
+        1204 => 1,
+        1207 => 1,
+        _ => call % 1000 / 100,
+    }
+}
+
+// A loop has two callers, so that the compiler keeps it a function of its own: in one function with the
 // others, what one record's loop holds in registers moves the count of another's.
-fn sum_of(call: u64, count: u64, less: u64) -> u64 {
-    match call % 1000 / 100 {
+fn sum_of(call: u64, count: u64, less: u64, short: u64) -> u64 {
+    match loop_of(call) {
+        1 => beyond(
+            decoded_sum(call, count, short),
+            decoded_sum(call, less, short),
+        ),
         3 => beyond(figures_sum(call, count), figures_sum(call, less)),
         4 => beyond(sent::sum(call, count), sent::sum(call, less)),
         5 => beyond(received_sum(call, count), received_sum(call, less)),
@@ -161,7 +205,7 @@ fn beyond(sum: u64, less: u64) -> u64 {
 }
 
 fn main() {
-    let sum = sum_of(argument(1), argument(2), argument(3));
+    let sum = sum_of(argument(1), argument(2), argument(3), argument(4));
     io::print_decimal(STDOUT_FILENO, sum);
     io::write_all(STDOUT_FILENO, b"\n");
 }

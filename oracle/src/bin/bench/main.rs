@@ -4,6 +4,7 @@
 mod processed;
 mod received;
 mod sent;
+mod sums;
 mod table;
 
 use std::collections::VecDeque;
@@ -13,15 +14,7 @@ use oracle::proto::mmp::algorithms::oracle_access as access;
 use oracle::proto::mmp::algorithms::{compute_etx, OwdTrendDetector};
 use oracle::proto::mmp::wire::{PathMtuNotification, ReceiverReport, SenderReport};
 
-/// The first random number.
-const START: u64 = 88172645463325252;
-
-/// Marsaglia's xorshift.
-fn next(x: u64) -> u64 {
-    let a = x ^ (x << 13);
-    let b = a ^ (a >> 7);
-    b ^ (b << 17)
-}
+use sums::{next, receiver_sum, sender_sum, START};
 
 fn sender_of(x: u64) -> SenderReport {
     SenderReport {
@@ -52,20 +45,6 @@ fn receiver_of(x: u64) -> ReceiverReport {
         interval_packets_recv: (x ^ 12) as u32,
         interval_bytes_recv: (x ^ 13) as u32,
     }
-}
-
-fn sender_sum(r: &SenderReport) -> u64 {
-    let counters = r.interval_start_counter ^ r.interval_end_counter;
-    let times = r.interval_start_timestamp ^ r.interval_end_timestamp ^ r.interval_bytes_sent;
-    counters ^ u64::from(times) ^ r.cumulative_packets_sent ^ r.cumulative_bytes_sent
-}
-
-fn receiver_sum(r: &ReceiverReport) -> u64 {
-    let counts = r.highest_counter ^ r.cumulative_packets_recv ^ r.cumulative_bytes_recv;
-    let bursts = r.dwell_time ^ r.max_burst_loss ^ r.mean_burst_loss;
-    let delays = r.timestamp_echo ^ r.jitter ^ r.ecn_ce_count ^ r.owd_trend as u32 ^ r.burst_loss_count;
-    let intervals = r.cumulative_reorder_count ^ r.interval_packets_recv ^ r.interval_bytes_recv;
-    counts ^ u64::from(bursts) ^ u64::from(delays) ^ u64::from(intervals)
 }
 
 /// The byte of the output that the number picks.
