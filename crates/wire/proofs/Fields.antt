@@ -6,12 +6,19 @@ use lib.ListN.{length, take, drop, length-drop}
 use lib.Seq.{take-add, take-all, drop-drop}
 use native.Mathlib.Omega.{arith}
 use Rattle.codec.specs.LittleEndian.{leBytes, fieldAt}
+use Rattle.codec.specs.Reading.{lengthAnswer}
+use Rattle.codec.specs.declared.reader.Length.the-variants.{Enough}
+use Rattle.codec.proofs.Lengths.{room}
 use Rattle.codec.proofs.Widths.{field-here, read-alike, bytes-read}
 use Rattle.wire.specs.Payload.{AlikeOn, Bytes}
 
 -- `&s[pos..]` is the payload without its first bytes
 pub part-whole : (s : List ℕ) (pos : ℕ) → take (length s - pos) (drop pos s) ≡ drop pos s
 part-whole s pos = take-all (length s - pos) (drop pos s) (omega (arith, length-drop pos s))
+
+-- and it is as long as the length answer has shown
+pub part-long : (s : List ℕ) (pos n : ℕ) → lengthAnswer s pos n ≡ Enough → n ≤ length (take (length s - pos) (drop pos s))
+part-long s pos n e = rw (part-whole s pos) (omega (arith, length-drop pos s, room s pos n e))
 
 -- a field that lies where two payloads are alike
 pub field-alike : (s t : List ℕ) (from to at n : ℕ) → AlikeOn s t from to → from ≤ at → at + n ≤ to → to ≤ length s → to ≤ length t → fieldAt s at n ≡ fieldAt t at n

@@ -1,5 +1,5 @@
 //! decoded CALL COUNT [LESS [SHORT]]: the loop over payloads whose length is read from memory in each turn, as crates/bench/src/decoded.rt. It is a program of its
-//! own: in one with `bench` each decoder has two callers, is then called and not inlined, and costs the commit up to twice as much.
+//! own: in one with `bench` each decoder has two callers, is then called and not inlined, and costs the commit two and a half times as much.
 
 use std::env;
 

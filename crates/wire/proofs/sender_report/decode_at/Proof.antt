@@ -2,11 +2,11 @@
 use borrow.Author.Needs.{needs}
 use native.Mathlib.Omega.{arith}
 use mathlib.Core.Path.{sym, ap, _∙_}
-use lib.ListN.{length, length-drop}
+use lib.ListN.{length}
 use Rattle.codec.specs.Reading.{valuesOf, byLength}
 use Rattle.codec.proofs.Lengths.{room, short-lengths}
 use Rattle.wire.specs.SenderReport.{reportIn, decodedBy, accepted, decodedAt}
-use Rattle.wire.proofs.Fields.{part-whole}
+use Rattle.wire.proofs.Fields.{part-whole, part-long}
 use Rattle.wire.proofs.sender_report.decode_at.Statement.{statement}
 use Rattle.wire.proofs.sender_report.decode_at.Tie as tie
 
@@ -26,11 +26,7 @@ part-report-in-start : tie.Need-part-report-in-start
 part-report-in-start c = omega (arith, room _ _ 47 (sym (c .before .before .require .ensures) ∙ c .enum-told .given .1))
 
 report-in-requires : tie.Need-report-in-requires
-report-in-requires c κs =
-    let a = c .before .before .before .before .before .args in
-    let s = a .payload .now in
-    rw (part-whole s (a .pos))
-    (omega (arith, length-drop (a .pos) s, room s (a .pos) 47 (sym (c .before .before .before .require .ensures) ∙ c .before .enum-told .given .1)))
+report-in-requires c κs = part-long _ _ 47 (sym (c .before .before .before .require .ensures) ∙ c .before .enum-told .given .1)
 
 returns-2 : tie.Need-returns-2
 unfolding decodedAt decodedBy valuesOf byLength
