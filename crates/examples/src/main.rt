@@ -78,4 +78,5 @@ fn main() {
     processing::stale();
     processing::delivery();
     processing::refused();
+    processing::kinds();
 }

@@ -118,6 +118,7 @@ pub fn refused() {
     );
     let mut full = m;
     full.reports_seen = 18446744073709551615;
+    full.stale_reports = 18446744073709551615;
     number(
         b"a report more than the counter holds",
         full.process_receiver_report(rr, 0, 0).refusal as u64,
@@ -135,6 +136,58 @@ pub fn refused() {
     number(
         b"a question to metrics with more zeros than reports",
         uneven.reports_seen().refusal as u64,
+        1,
+    );
+    let mut untold = m;
+    untold.reports_seen = 1;
+    number(
+        b"a question to metrics with a report of no kind",
+        untold.stale_reports().refusal as u64,
+        1,
+    );
+    let mut wrapped = m;
+    wrapped.stale_reports = 9223372036854775808;
+    wrapped.no_echo_reports = 9223372036854775808;
+    number(
+        b"a question to metrics whose kinds add up to 2^64, with no report seen",
+        wrapped.no_echo_reports().refusal as u64,
+        1,
+    );
+    let mut last = m;
+    last.reports_seen = 18446744073709551614;
+    last.rtt_arith_fail = 18446744073709551614;
+    number(
+        b"the last report that the counter holds",
+        last.process_receiver_report(rr, 0, 0).refusal as u64,
+        0,
+    );
+}
+
+// A report without an echo, the same again, then a rekey and it once more: no kind is cleared.
+pub fn kinds() {
+    let m = MmpMetrics::new();
+    number(b"new: stale reports", m.stale_reports().value, 0);
+    number(
+        b"new: reports without an echo",
+        m.no_echo_reports().value,
+        0,
+    );
+    let rr = report(1, 1, 0, 0);
+    let twice = after(after(m, rr, 0, 0), rr, 0, 0);
+    number(b"no echo twice: seen", twice.reports_seen().value, 2);
+    number(b"no echo twice: no echo", twice.no_echo_reports().value, 1);
+    number(b"no echo twice: stale", twice.stale_reports().value, 1);
+    let update = twice.reset_for_rekey();
+    let rekeyed = update.state;
+    let thrice = after(rekeyed, rr, 0, 0);
+    number(
+        b"after a rekey, once more: no echo",
+        thrice.no_echo_reports().value,
+        2,
+    );
+    number(
+        b"after a rekey, once more: stale",
+        thrice.stale_reports().value,
         1,
     );
 }

@@ -1,7 +1,7 @@
 -- The round trip that a report's echo tells, and the counts beside it: document 01, "Round trip, ratios and trends", and metrics.rs. Definitions only.
 use mathlib.Core.Bool.{Bool, cond}
 use Prim.Native.Nat.{ℕ, _+_, _-_, _*_}
-use lib.Dec.{leb, ltb, eqb}
+use lib.Dec.{ltb, eqb}
 use lib.IntN.{ℤ}
 use lib.Ieee.{Float, binary64, div, ofInt}
 use Rattle.floats.specs.Operations.{thousand-float}
@@ -29,6 +29,6 @@ sampleUs ms = 1000 * ms
 unfoldable pub millisecondsOf : ℤ → Float
 millisecondsOf us = div binary64 (ofInt binary64 us) thousand-float
 
--- document 01, State rule: "Samples, zeros and arithmetic failures together do not exceed reports seen"
-abbrev pub talliesOk : ℕ → ℕ → ℕ → ℕ → Bool
-talliesOk seen samples zeros failures = leb (samples + zeros + failures) seen
+-- document 02, W-205: "Each of the five kinds (stale, no echo, sample, zero, arithmetic failure)"; "their sum equals reports seen", as numbers
+abbrev pub talliesOk : ℕ → ℕ → ℕ → ℕ → ℕ → ℕ → Bool
+talliesOk seen stale no-echo samples zeros failures = eqb (stale + no-echo + samples + zeros + failures) seen

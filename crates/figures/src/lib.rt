@@ -90,18 +90,33 @@ pub fn smoothed_ms_unchecked(srtt: SrttEstimator) -> f64
     floats::nearest_i64_to_f64(srtt.srtt_us) / 1000.0
 }
 
-// The rule of the four counts: each sample, zero and failure came with a report.
-pub fn tallies_ok(reports_seen: u64, samples: u64, zeros: u64, failures: u64) -> bool
-    ensures { λ r. ⌜ r ≡ talliesOk «reports_seen» samples zeros failures ⌝ }
+// The rule of the six counts: every report seen is of one of five kinds. Each kind is taken off what is left of the reports, so that no sum can wrap.
+pub fn tallies_ok(
+    reports_seen: u64,
+    stale: u64,
+    no_echo: u64,
+    samples: u64,
+    zeros: u64,
+    failures: u64,
+) -> bool
+    ensures { λ r. ⌜ r ≡ talliesOk «reports_seen» stale «no_echo» samples zeros failures ⌝ }
 {
-    if reports_seen < samples {
+    if reports_seen < stale {
         return false;
     }
-    let others = reports_seen - samples;
-    if others < zeros {
+    let fresh = reports_seen - stale;
+    if fresh < no_echo {
         return false;
     }
-    failures <= others - zeros
+    let echoes = fresh - no_echo;
+    if echoes < samples {
+        return false;
+    }
+    let invalid = echoes - samples;
+    if invalid < zeros {
+        return false;
+    }
+    failures == invalid - zeros
 }
 
 // --- Delivery ---

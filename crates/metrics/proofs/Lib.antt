@@ -5,6 +5,6 @@ pub mod FiguresInRange
 pub mod ReportsInRange
 pub mod RuleKept
 pub mod RoundTripsTaken
-pub mod SeenApart
+pub mod TwoApart
 pub mod AnswersInRange
 mod WellWithin

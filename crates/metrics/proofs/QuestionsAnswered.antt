@@ -4,7 +4,7 @@ use mathlib.Core.Bool.{Bool, true, _&&_}
 use mathlib.Core.List.{List, [], _∷_, foldl}
 use Prim.Native.Nat.{ℕ, _+_, _^_, _≤_, _<_}
 use native.Mathlib.Omega.{arith}
-use borrow.Author.Tests.{leb-true, ltb-true}
+use borrow.Author.Tests.{eqb-true, leb-true, ltb-true}
 use Rattle.refusals.specs.Questions.{question}
 use Rattle.refusals.specs.Ranges.{maxClock, clockOk, counterOk, optionalClockOk, ratioOk, etxOk}
 use Rattle.refusals.proofs.Clauses.{left, right}
@@ -12,8 +12,7 @@ use Rattle.refusals.proofs.FirstNoFound.{each-yes}
 use Rattle.algorithms.specs.Ewma as ewma
 use Rattle.algorithms.specs.Srtt as estimator
 use Rattle.figures.specs.Goodput.{goodputOk}
-use Rattle.figures.specs.RoundTrips.{talliesOk}
-use Rattle.metrics.specs.State.{trendsOk, ratiosOk, keepsRule, refusalOf}
+use Rattle.metrics.specs.State.{trendsOk, ratiosOk, tallied, keepsRule, refusalOf}
 use Rattle.metrics.specs.Reports.{counted, Room, processRefusal}
 use Rattle.metrics.specs.declared.MmpMetrics.{MmpMetrics}
 
@@ -31,7 +30,7 @@ pub record Kept (m : MmpMetrics) : Type 0 where
   pub reverse : ratioOk (m .«delivery_ratio_reverse») ≡ true
   pub etx : etxOk (m .etx) ≡ true
   pub goodput : goodputOk (m .«goodput_bps») ≡ true
-  pub tallies : talliesOk (m .«reports_seen») (m .«rtt_samples») (m .«rtt_zero») (m .«rtt_arith_fail») ≡ true
+  pub tallies : tallied m ≡ true
 
 abbrev pub Each : List Bool → Type 0
 Each [] = Unit {0}
@@ -42,13 +41,10 @@ clauses b [] h = (h, tt)
 clauses b (c ∷ bs) h = let r = clauses (b && c) bs h in (left b c (r .0), (right b c (r .0), r .1))
 
 module _ (m : MmpMetrics) where
-  abbrev tallied : Bool
-  tallied = talliesOk (m .«reports_seen») (m .«rtt_samples») (m .«rtt_zero») (m .«rtt_arith_fail»)
-
   pub kept : keepsRule m ≡ true → Kept m
   unfolding keepsRule trendsOk ratiosOk
   kept h =
-      let parts = clauses (optionalClockOk (m .«prev_rr_ms»)) (estimator.keepsRule (m .srtt) ∷ trendsOk m ∷ ratiosOk m ∷ tallied ∷ []) h in
+      let parts = clauses (optionalClockOk (m .«prev_rr_ms»)) (estimator.keepsRule (m .srtt) ∷ trendsOk m ∷ ratiosOk m ∷ tallied m ∷ []) h in
       let t =
       clauses (ewma.keepsRule (m .«rtt_trend»)) (ewma.keepsRule (m .«loss_trend») ∷ ewma.keepsRule (m .«goodput_trend») ∷ ewma.keepsRule (m .«jitter_trend») ∷ ewma.keepsRule (m .«etx_trend») ∷ [])
       (parts .1 .1 .0) in
@@ -86,12 +82,16 @@ module _ (m : MmpMetrics) where
         k .tallies,
       )
 
-  -- each count has room for one more report
+  -- the five kinds are the reports seen
+  pub sum-seen : keepsRule m ≡ true → m .«stale_reports» + m .«no_echo_reports» + m .«rtt_samples» + m .«rtt_zero» + m .«rtt_arith_fail» ≡ m .«reports_seen»
+  sum-seen h = eqb-true (m .«stale_reports» + m .«no_echo_reports» + m .«rtt_samples» + m .«rtt_zero» + m .«rtt_arith_fail») (m .«reports_seen») (kept h .tallies)
+
+  -- so each kind has room for one more report where they have: none is full before
   pub counted-room : keepsRule m ≡ true → m .«reports_seen» + 1 < 2 ^ 64 → Room (counted m)
   unfolding counted
   counted-room h seen =
-      let t = leb-true (m .«rtt_samples» + m .«rtt_zero» + m .«rtt_arith_fail») (m .«reports_seen») (kept h .tallies) in
-      record { samples = omega (arith, t); zeros = omega (arith, t); failures = omega (arith, t) }
+      let t = sum-seen h in
+      record { stale = omega (arith, t); no-echo = omega (arith, t); samples = omega (arith, t); zeros = omega (arith, t); failures = omega (arith, t) }
 
 -- ---- the questions of each call
 pub state-asked : (m : MmpMetrics) → refusalOf m ≡ 0 → keepsRule m ≡ true

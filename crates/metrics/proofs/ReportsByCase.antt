@@ -26,7 +26,7 @@ module _ (m : MmpMetrics) (rr : ReceiverReport) (ours now : ℕ) where
   unfolding processOf
   refused-is e = rw (ne-eqb (processRefusal m now) 0 e)
 
-  -- a stale report is counted, and moves nothing else
+  -- a stale report is counted twice, as seen and as stale, and moves nothing else
   pub stale-is : processRefusal m now ≡ 0 → stale (savedIn m) rr ≡ true → processOf m rr ours now ≡ staleReport (counted m)
   unfolding processed savedIn counted
   stale-is e s = accepted-is e ∙ rw s

@@ -13,7 +13,7 @@ use Rattle.figures.proofs.GoodputInRange.{goodput-kept}
 use Rattle.figures.proofs.TripsInRange.{sample-at-most, sample-in-range}
 use Rattle.wire.specs.ReceiverReport.{Fits}
 use Rattle.wire.specs.declared.receiver_report.ReceiverReport.{ReceiverReport}
-use Rattle.metrics.specs.Reports.{counted, sampled, rttUpdated, withForward, deliveryUpdated, withBytes, goodputUpdated, jitterTrendUpdated, countersSaved, trafficUpdated, newerState}
+use Rattle.metrics.specs.Reports.{counted, staleCounted, sampled, rttUpdated, withForward, deliveryUpdated, withBytes, goodputUpdated, jitterTrendUpdated, countersSaved, trafficUpdated, newerState}
 use Rattle.metrics.specs.declared.MmpMetrics.{MmpMetrics}
 use Rattle.metrics.proofs.FiguresInRange.{Ratio, InRange, followed, integer, loss, expected, ratio, etx-of, less}
 use Rattle.metrics.proofs.ReportsByCase.{by-delivery, by-bytes}
@@ -22,6 +22,10 @@ use Rattle.metrics.proofs.ReportsByCase.{by-delivery, by-bytes}
 pub counted-in-range : (m : MmpMetrics) → InRange m → InRange (counted m)
 unfolding counted
 counted-in-range m k = k
+
+pub stale-in-range : (m : MmpMetrics) → InRange m → InRange (staleCounted m)
+unfolding staleCounted
+stale-in-range m k = k
 
 sampled-in-range : (m : MmpMetrics) (ms : ℕ) → ms < 2 ^ 32 → InRange m → InRange (sampled m ms)
 unfolding sampled

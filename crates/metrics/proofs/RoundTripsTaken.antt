@@ -17,7 +17,7 @@ use Rattle.wire.specs.declared.receiver_report.ReceiverReport.{ReceiverReport}
 use Rattle.metrics.specs.Fields.{Rtt}
 use Rattle.metrics.specs.State.{keepsRule, fresh, savedIn}
 use Rattle.metrics.specs.Updates.{rekeyed, reversed}
-use Rattle.metrics.specs.Reports.{counted, sampled, rttUpdated, countersSaved, trafficUpdated, newerState}
+use Rattle.metrics.specs.Reports.{counted, staleCounted, sampled, rttUpdated, countersSaved, trafficUpdated, newerState}
 use Rattle.metrics.specs.declared.MmpMetrics.{MmpMetrics}
 use Rattle.metrics.proofs.QuestionsAnswered as rule
 use Rattle.metrics.proofs.ReportsByCase.{by-reverse, traffic-leaves}
@@ -52,6 +52,10 @@ pub counted-estimator : (m : MmpMetrics) → counted m .srtt ≡ m .srtt
 unfolding counted
 counted-estimator m = refl
 
+pub stale-estimator : (m : MmpMetrics) → staleCounted m .srtt ≡ m .srtt
+unfolding staleCounted
+stale-estimator m = refl
+
 pub newer-estimate : (m : MmpMetrics) (rr : ReceiverReport) (ours now : ℕ) → estimateIn (newerState m rr ours now .srtt) ≡ afterTrip (estimateIn (m .srtt)) (roundTrip rr ours)
 unfolding newerState
 newer-estimate m rr ours now = ap (λ (r : Rtt). estimateIn (r .estimator)) (traffic-leaves (rttUpdated m (roundTrip rr ours)) rr now .0) ∙ trip-estimate m (roundTrip rr ours)
@@ -68,6 +72,10 @@ fresh-saved = refl
 pub counted-saved : (m : MmpMetrics) → savedIn (counted m) ≡ savedIn m
 unfolding savedIn counted
 counted-saved m = refl
+
+pub stale-saved : (m : MmpMetrics) → savedIn (staleCounted m) ≡ savedIn m
+unfolding savedIn staleCounted
+stale-saved m = refl
 
 pub newer-saved : (m : MmpMetrics) (rr : ReceiverReport) (ours now : ℕ) → savedIn (newerState m rr ours now) ≡ saved (countersOf rr)
 unfolding savedIn newerState trafficUpdated countersSaved

@@ -1,10 +1,10 @@
 -- Each call ends within the rule, floats included: a new record keeps it, and so does the record after any call that is accepted. Refused or not, f64 stay f64.
 use mathlib.Core.Path.{_≡_, refl, sym, subst}
 use mathlib.Core.Bool.{Bool, true, false, cond}
-use Prim.Native.Nat.{ℕ, _+_, _^_, _≤_, _<_}
+use Prim.Native.Nat.{ℕ, _+_, _^_, _<_}
 use native.Mathlib.Omega.{arith}
 use lib.Dec.{eqb}
-use borrow.Author.Tests.{le-leb, leb-true, eqb-true}
+use borrow.Author.Tests.{eq-eqb, eqb-true}
 use Rattle.floats.specs.Operations.{zero-float, one-float}
 use Rattle.floats.proofs.Ranges.{within→in-range}
 use Rattle.refusals.specs.Ranges.{maxEtx}
@@ -14,18 +14,18 @@ use Rattle.figures.specs.declared.RoundTrip.{RoundTrip}
 use Rattle.figures.specs.declared.RoundTrip.the-variants.{NoEcho, Sample, Zero, ArithFail}
 use Rattle.wire.specs.ReceiverReport.{Fits}
 use Rattle.wire.specs.declared.receiver_report.ReceiverReport.{ReceiverReport}
-use Rattle.metrics.specs.Fields.{Tallies, talliesIn}
+use Rattle.metrics.specs.Fields.{Tallies, oneSeen, oneStale, oneNoEcho, oneSample, oneZero, oneFailure, talliesIn}
 use Rattle.metrics.specs.State.{keepsRule, fresh, refusalOf}
 use Rattle.metrics.specs.Updates.{rekeyed, rekeyOf, reversed, reverseOf}
-use Rattle.metrics.specs.Reports.{counted, sampled, rttUpdated, newerState, processRefusal, processOf}
+use Rattle.metrics.specs.Reports.{counted, staleCounted, sampled, rttUpdated, newerState, processRefusal, processOf}
 use Rattle.metrics.specs.declared.MmpMetrics.{MmpMetrics}
 use Rattle.metrics.proofs.FiguresInRange.{Floats, InRange, in-range, floats, fresh-in-range, rekeyed-in-range, reversed-in-range}
 use Rattle.metrics.proofs.QuestionsAnswered as rule
 use Rattle.metrics.proofs.ReportsByCase.{by-case, by-reverse, traffic-leaves, process-refusal}
-use Rattle.metrics.proofs.ReportsInRange.{counted-in-range, newer-in-range}
+use Rattle.metrics.proofs.ReportsInRange.{counted-in-range, stale-in-range, newer-in-range}
 
 abbrev Within : Tallies → Type 0
-Within t = talliesOk (t .seen) (t .samples) (t .zeros) (t .failures) ≡ true
+Within t = talliesOk (t .seen) (t .stale) (t .no-echo) (t .samples) (t .zeros) (t .failures) ≡ true
 
 abbrev Tallied : MmpMetrics → Type 0
 Tallied m = Within (talliesIn m)
@@ -81,16 +81,27 @@ reverse-keeps-rule m packets highest p l f h =
     rw h (keeps (reversed m packets highest) (reversed-in-range m packets highest p l (figures m f r)) (reversed-tallied m packets highest (rule.kept m r .tallies)))
 
 -- ---- a report
--- one more report, and at most one more sample, zero or failure
+-- the sum of the kinds, and what the rule says of it
+abbrev kinds : Tallies → ℕ
+kinds t = t .stale + t .no-echo + t .samples + t .zeros + t .failures
+
+summed : (t : Tallies) → Within t → kinds t ≡ t .seen
+summed t h = eqb-true (kinds t) (t .seen) h
+
+within : (t : Tallies) → kinds t ≡ t .seen → Within t
+within t e = eq-eqb (kinds t) (t .seen) e
+
+-- one more report, and one more of its kind
+stale-tallied : (m : MmpMetrics) → Tallied m → Tallied (staleCounted (counted m))
+unfolding staleCounted counted
+stale-tallied m h = let e = summed (talliesIn m) h in within (oneStale (oneSeen (talliesIn m))) (omega arith)
+
 trip-tallied : (m : MmpMetrics) (t : RoundTrip) → Tallied m → Tallied (rttUpdated (counted m) t)
 unfolding rttUpdated sampled counted
-trip-tallied m t h = go t (leb-true (m .«rtt_samples» + m .«rtt_zero» + m .«rtt_arith_fail») (m .«reports_seen») h)
-  where
-    go : (t : RoundTrip) → m .«rtt_samples» + m .«rtt_zero» + m .«rtt_arith_fail» ≤ m .«reports_seen» → Tallied (rttUpdated (counted m) t)
-    go NoEcho l = le-leb (m .«rtt_samples» + m .«rtt_zero» + m .«rtt_arith_fail») (m .«reports_seen» + 1) (omega arith)
-    go (Sample ms) l = le-leb (m .«rtt_samples» + 1 + m .«rtt_zero» + m .«rtt_arith_fail») (m .«reports_seen» + 1) (omega arith)
-    go Zero l = le-leb (m .«rtt_samples» + (m .«rtt_zero» + 1) + m .«rtt_arith_fail») (m .«reports_seen» + 1) (omega arith)
-    go ArithFail l = le-leb (m .«rtt_samples» + m .«rtt_zero» + (m .«rtt_arith_fail» + 1)) (m .«reports_seen» + 1) (omega arith)
+trip-tallied m NoEcho h = let e = summed (talliesIn m) h in within (oneNoEcho (oneSeen (talliesIn m))) (omega arith)
+trip-tallied m (Sample ms) h = let e = summed (talliesIn m) h in within (oneSample (oneSeen (talliesIn m))) (omega arith)
+trip-tallied m Zero h = let e = summed (talliesIn m) h in within (oneZero (oneSeen (talliesIn m))) (omega arith)
+trip-tallied m ArithFail h = let e = summed (talliesIn m) h in within (oneFailure (oneSeen (talliesIn m))) (omega arith)
 
 newer-tallied : (m : MmpMetrics) (rr : ReceiverReport) (ours now : ℕ) → Tallied m → Tallied (newerState (counted m) rr ours now)
 unfolding newerState
@@ -102,18 +113,17 @@ module _ (m : MmpMetrics) (rr : ReceiverReport) (ours now : ℕ) (f : Floats m) 
 
   -- stale or not
   pub process-keeps-rule : processOf m rr ours now .refusal ≡ 0 → keepsRule (processOf m rr ours now .state) ≡ true
-  unfolding rttUpdated
   process-keeps-rule e =
       by-case m rr ours now (λ p. keepsRule (p .state) ≡ true)
       (λ h. absurd (h (rw (process-refusal m rr ours now) at e)))
-      (λ h s. let y = rule.process-asked m now h in keeps (counted m) (counted-in-range m (figures m f (y .rule))) (trip-tallied m NoEcho (rule.kept m (y .rule) .tallies)))
+      (λ h s. let y = rule.process-asked m now h in keeps (staleCounted (counted m)) (stale-in-range (counted m) (counted-in-range m (figures m f (y .rule)))) (stale-tallied m (rule.kept m (y .rule) .tallies)))
       (λ h s. keeps (newerState (counted m) rr ours now) (newer-within h) (newer-tallied m rr ours now (rule.kept m (rule.process-asked m now h .rule) .tallies)))
 
   pub process-floats : Floats (processOf m rr ours now .state)
   process-floats =
       by-case m rr ours now (λ p. Floats (p .state))
       (λ h. f)
-      (λ h s. floats (counted m) (counted-in-range m (figures m f (rule.process-asked m now h .rule))))
+      (λ h s. floats (staleCounted (counted m)) (stale-in-range (counted m) (counted-in-range m (figures m f (rule.process-asked m now h .rule)))))
       (λ h s. floats (newerState (counted m) rr ours now) (newer-within h))
 
 -- ---- f64 stay f64 in the other calls

@@ -23,8 +23,7 @@ use Rattle.algorithms.specs.Ewma as ewma
 use Rattle.algorithms.specs.Srtt as estimator
 use Rattle.algorithms.proofs.EwmaKeepsRule.{Floats}
 use Rattle.figures.specs.Goodput.{maxGoodput}
-use Rattle.figures.specs.RoundTrips.{talliesOk}
-use Rattle.metrics.specs.State.{trendsOk, ratiosOk, keepsRule}
+use Rattle.metrics.specs.State.{trendsOk, ratiosOk, tallied, keepsRule}
 use Rattle.metrics.specs.Reports.{processRefusal}
 use Rattle.metrics.specs.declared.MmpMetrics.{MmpMetrics}
 use Rattle.metrics.proofs.QuestionsAnswered.{clauses}
@@ -187,20 +186,20 @@ abbrev pub Numbers : MmpMetrics → ℕ → Type 0
 Numbers m now =
     (optionalClockOk (m .«prev_rr_ms») ≡ true)
     × (estimator.keepsRule (m .srtt) ≡ true)
-    × (talliesOk (m .«reports_seen») (m .«rtt_samples») (m .«rtt_zero») (m .«rtt_arith_fail») ≡ true)
+    × (tallied m ≡ true)
     × (clockOk now ≡ true)
     × (counterOk 64 (m .«reports_seen») 1 ≡ true)
 
-pub numbers-near : (m : MmpMetrics) (now prev : ℕ) (smoothed variation tallies : Bool) → clockOk prev ≡ optionalClockOk (m .«prev_rr_ms»)
+pub numbers-near : (m : MmpMetrics) (now prev : ℕ) (smoothed variation : Bool) → clockOk prev ≡ optionalClockOk (m .«prev_rr_ms»)
     → (smoothed ≡ true → variation ≡ true → estimator.keepsRule (m .srtt) ≡ true)
-    → tallies ≡ talliesOk (m .«reports_seen») (m .«rtt_samples») (m .«rtt_zero») (m .«rtt_arith_fail»)
-    → (ltb prev far && ltb now far && ltb (m .«reports_seen») far && smoothed && variation && tallies) ≡ true
+    → (ltb prev far && ltb now far && ltb (m .«reports_seen») far && smoothed && variation) ≡ true
+    → tallied m ≡ true
     → Numbers m now
-numbers-near m now prev smoothed variation tallies p s t h =
+numbers-near m now prev smoothed variation p s h t =
     let seen = m .«reports_seen» in
-    let y = clauses (ltb prev far) (ltb now far ∷ ltb seen far ∷ smoothed ∷ variation ∷ tallies ∷ []) h in
+    let y = clauses (ltb prev far) (ltb now far ∷ ltb seen far ∷ smoothed ∷ variation ∷ []) h in
     let few = ltb-true seen far (y .1 .1 .0) in
-    (sym p ∙ near prev (y .0), s (y .1 .1 .1 .0) (y .1 .1 .1 .1 .0), sym t ∙ y .1 .1 .1 .1 .1 .0, near now (y .1 .0), lt-ltb (seen + 1) (2 ^ 64) (omega (arith, few)))
+    (sym p ∙ near prev (y .0), s (y .1 .1 .1 .0) (y .1 .1 .1 .1 .0), t, near now (y .1 .0), lt-ltb (seen + 1) (2 ^ 64) (omega (arith, few)))
 
 -- ---- all of them
 rule-kept : (m : MmpMetrics) (now : ℕ) → (trendsOk m ≡ true) × (ratiosOk m ≡ true) → Numbers m now → keepsRule m ≡ true

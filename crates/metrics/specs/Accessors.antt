@@ -59,6 +59,12 @@ rttZeroOf m = answerU64 (refusalOf m) (m .«rtt_zero»)
 unfoldable pub rttArithFailOf : MmpMetrics → AnswerU64
 rttArithFailOf m = answerU64 (refusalOf m) (m .«rtt_arith_fail»)
 
+unfoldable pub staleReportsOf : MmpMetrics → AnswerU64
+staleReportsOf m = answerU64 (refusalOf m) (m .«stale_reports»)
+
+unfoldable pub noEchoReportsOf : MmpMetrics → AnswerU64
+noEchoReportsOf m = answerU64 (refusalOf m) (m .«no_echo_reports»)
+
 unfoldable pub lastRttMsOf : MmpMetrics → AnswerOptionU32
 lastRttMsOf m = answerOptionU32 (refusalOf m) (m .«last_rtt_ms»)
 

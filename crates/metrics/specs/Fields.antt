@@ -1,6 +1,6 @@
 -- The fields of the metrics' record in groups, and the record with one group set: the other groups stay. Definitions only.
 use mathlib.Core.Bool.{Bool}
-use Prim.Native.Nat.{ℕ}
+use Prim.Native.Nat.{ℕ, _+_}
 use lib.Ieee.{Float}
 use Rattle.refusals.specs.declared.option.OptionU32.{OptionU32}
 use Rattle.refusals.specs.declared.option.OptionU64.{OptionU64}
@@ -42,12 +42,37 @@ pub record Reverse : Type 0 where
   pub highest : ℕ
   pub has : Bool
 
--- the reports seen, and those with a sample, a zero or a failed round trip
+-- the reports seen, and those of each kind: stale, or fresh with no echo, a sample, a zero or a failed round trip
 pub record Tallies : Type 0 where
   pub seen : ℕ
+  pub stale : ℕ
+  pub no-echo : ℕ
   pub samples : ℕ
   pub zeros : ℕ
   pub failures : ℕ
+
+-- with others for reports seen and stale; and one more of each count
+module _ (t : Tallies) where
+  abbrev pub twoSet : ℕ → ℕ → Tallies
+  twoSet seen stale = record { seen = seen; stale = stale; no-echo = t .no-echo; samples = t .samples; zeros = t .zeros; failures = t .failures }
+
+  abbrev pub oneSeen : Tallies
+  oneSeen = twoSet (t .seen + 1) (t .stale)
+
+  abbrev pub oneStale : Tallies
+  oneStale = twoSet (t .seen) (t .stale + 1)
+
+  abbrev pub oneNoEcho : Tallies
+  oneNoEcho = record { seen = t .seen; stale = t .stale; no-echo = t .no-echo + 1; samples = t .samples; zeros = t .zeros; failures = t .failures }
+
+  abbrev pub oneSample : Tallies
+  oneSample = record { seen = t .seen; stale = t .stale; no-echo = t .no-echo; samples = t .samples + 1; zeros = t .zeros; failures = t .failures }
+
+  abbrev pub oneZero : Tallies
+  oneZero = record { seen = t .seen; stale = t .stale; no-echo = t .no-echo; samples = t .samples; zeros = t .zeros + 1; failures = t .failures }
+
+  abbrev pub oneFailure : Tallies
+  oneFailure = record { seen = t .seen; stale = t .stale; no-echo = t .no-echo; samples = t .samples; zeros = t .zeros; failures = t .failures + 1 }
 
 -- ---- the record of them
 abbrev pub assembled : Rtt → Trends → Ratios → KeptReport → Reverse → Tallies → MmpMetrics
@@ -78,6 +103,8 @@ assembled rtt trends ratios kept reverse tallies =
       «rtt_zero» = tallies .zeros;
       «rtt_arith_fail» = tallies .failures;
       «last_rtt_ms» = rtt .last;
+      «stale_reports» = tallies .stale;
+      «no_echo_reports» = tallies .no-echo;
     }
 
 module _ (m : MmpMetrics) where
@@ -108,7 +135,15 @@ module _ (m : MmpMetrics) where
   reverseIn = record { packets = m .«prev_reverse_packets»; highest = m .«prev_reverse_highest»; has = m .«has_prev_reverse» }
 
   abbrev pub talliesIn : Tallies
-  talliesIn = record { seen = m .«reports_seen»; samples = m .«rtt_samples»; zeros = m .«rtt_zero»; failures = m .«rtt_arith_fail» }
+  talliesIn =
+      record {
+        seen = m .«reports_seen»;
+        stale = m .«stale_reports»;
+        no-echo = m .«no_echo_reports»;
+        samples = m .«rtt_samples»;
+        zeros = m .«rtt_zero»;
+        failures = m .«rtt_arith_fail»;
+      }
 
   -- ---- with one group set
   abbrev pub withRtt : Rtt → MmpMetrics
@@ -129,6 +164,6 @@ module _ (m : MmpMetrics) where
   abbrev pub withTallies : Tallies → MmpMetrics
   withTallies t = assembled rttIn trendsIn ratiosIn keptIn reverseIn t
 
-  -- the reports seen alone
-  abbrev pub withSeen : ℕ → MmpMetrics
-  withSeen seen = withTallies (record { seen = seen; samples = m .«rtt_samples»; zeros = m .«rtt_zero»; failures = m .«rtt_arith_fail» })
+  -- reports seen and stale alone
+  abbrev pub withTwo : ℕ → ℕ → MmpMetrics
+  withTwo seen stale = withTallies (twoSet talliesIn seen stale)

@@ -20,7 +20,7 @@ use Rattle.figures.specs.RoundTrips.{roundTrip, sampleUs, millisecondsOf}
 use Rattle.figures.specs.Stale.{countersOf, stale}
 use Rattle.figures.specs.declared.RoundTrip.{RoundTrip}
 use Rattle.figures.specs.declared.RoundTrip.the-variants.{NoEcho, Sample, Zero, ArithFail}
-use Rattle.metrics.specs.Fields.{withRtt, withTrends, withRatios, withKept, withTallies, withSeen}
+use Rattle.metrics.specs.Fields.{withRtt, withTrends, withRatios, withKept, talliesIn, withTallies, oneSeen, oneStale, oneNoEcho, oneSample, oneZero, oneFailure}
 use Rattle.metrics.specs.State.{keepsRule, savedIn}
 use Rattle.metrics.specs.declared.MmpMetrics.{MmpMetrics}
 use Rattle.metrics.specs.declared.Outcome.{Outcome}
@@ -30,7 +30,11 @@ use Rattle.metrics.specs.declared.RrLog.the-variants as log
 
 -- ---- reports seen, stale ones too
 unfoldable pub counted : MmpMetrics → MmpMetrics
-counted m = withSeen m (m .«reports_seen» + 1)
+counted m = withTallies m (oneSeen (talliesIn m))
+
+-- and the stale ones
+unfoldable pub staleCounted : MmpMetrics → MmpMetrics
+staleCounted m = withTallies m (oneStale (talliesIn m))
 
 -- ---- the round trip
 -- a sample moves SRTT, RTTVAR and the trend; it is the last
@@ -42,20 +46,22 @@ sampled m ms =
       trend = ewma.stepped (m .«rtt_trend») (ofInt binary64 (pos (sampleUs ms)));
       last = optionU32.Some ms;
     }))
-    (record { seen = m .«reports_seen»; samples = m .«rtt_samples» + 1; zeros = m .«rtt_zero»; failures = m .«rtt_arith_fail» })
+    (oneSample (talliesIn m))
 
--- one more of each count fits
+-- one more of each kind fits
 pub record Room (m : MmpMetrics) : Type 0 where
+  pub stale : m .«stale_reports» + 1 < 2 ^ 64
+  pub no-echo : m .«no_echo_reports» + 1 < 2 ^ 64
   pub samples : m .«rtt_samples» + 1 < 2 ^ 64
   pub zeros : m .«rtt_zero» + 1 < 2 ^ 64
   pub failures : m .«rtt_arith_fail» + 1 < 2 ^ 64
 
--- any other echo is counted alone
+-- any other fresh report is counted alone
 unfoldable pub rttUpdated : MmpMetrics → RoundTrip → MmpMetrics
-rttUpdated m NoEcho = m
+rttUpdated m NoEcho = withTallies m (oneNoEcho (talliesIn m))
 rttUpdated m (Sample ms) = sampled m ms
-rttUpdated m Zero = withTallies m (record { seen = m .«reports_seen»; samples = m .«rtt_samples»; zeros = m .«rtt_zero» + 1; failures = m .«rtt_arith_fail» })
-rttUpdated m ArithFail = withTallies m (record { seen = m .«reports_seen»; samples = m .«rtt_samples»; zeros = m .«rtt_zero»; failures = m .«rtt_arith_fail» + 1 })
+rttUpdated m Zero = withTallies m (oneZero (talliesIn m))
+rttUpdated m ArithFail = withTallies m (oneFailure (talliesIn m))
 
 -- "An RTT log entry carries the whole milliseconds and the SRTT from before the sample", in ms
 unfoldable pub rttLog : MmpMetrics → RoundTrip → RrLog
@@ -131,9 +137,9 @@ newerOutcome m rr ours now = outcomeOf (not (m .srtt .initialized) && newerState
 abbrev pub newerReport : MmpMetrics → ReceiverReport → ℕ → ℕ → ReportProcessed
 newerReport m rr ours now = answered 0 (newerState m rr ours now) (newerOutcome m rr ours now)
 
--- a stale report moves nothing
+-- a stale report is counted, and moves nothing
 abbrev pub staleReport : MmpMetrics → ReportProcessed
-staleReport m = answered 0 m (outcomeOf false (log.Stale (m .«prev_rr_highest_counter») (m .«prev_rr_cum_packets») (m .«prev_rr_cum_bytes»)))
+staleReport m = answered 0 (staleCounted m) (outcomeOf false (log.Stale (m .«prev_rr_highest_counter») (m .«prev_rr_cum_packets») (m .«prev_rr_cum_bytes»)))
 
 unfoldable pub processed : MmpMetrics → ReceiverReport → ℕ → ℕ → ReportProcessed
 processed m rr ours now = cond (stale (savedIn m) rr) (staleReport m) (newerReport m rr ours now)

@@ -31,14 +31,18 @@ trendsOk m =
 unfoldable pub ratiosOk : MmpMetrics → Bool
 ratiosOk m = ratioOk (m .«delivery_ratio_forward») && ratioOk (m .«delivery_ratio_reverse») && etxOk (m .etx) && goodputOk (m .«goodput_bps»)
 
--- the clock field obeys question 2; SRTT and RTTVAR are 0 to 2^42; and samples, zeros and failures do not exceed reports seen
+-- the five kinds add up to reports seen: document 02, W-205, in the place of "do not exceed"
+abbrev pub tallied : MmpMetrics → Bool
+tallied m = talliesOk (m .«reports_seen») (m .«stale_reports») (m .«no_echo_reports») (m .«rtt_samples») (m .«rtt_zero») (m .«rtt_arith_fail»)
+
+-- the clock field obeys question 2; SRTT and RTTVAR are 0 to 2^42
 unfoldable pub keepsRule : MmpMetrics → Bool
 keepsRule m =
     optionalClockOk (m .«prev_rr_ms»)
     && estimator.keepsRule (m .srtt)
     && trendsOk m
     && ratiosOk m
-    && talliesOk (m .«reports_seen») (m .«rtt_samples») (m .«rtt_zero») (m .«rtt_arith_fail»)
+    && tallied m
 
 -- ---- a new record: metrics.rs, `new`. Nothing measured, every frame thought delivered
 abbrev pub fresh : MmpMetrics
@@ -69,6 +73,8 @@ fresh =
       «rtt_zero» = 0;
       «rtt_arith_fail» = 0;
       «last_rtt_ms» = optionU32.None;
+      «stale_reports» = 0;
+      «no_echo_reports» = 0;
     }
 
 -- ---- the report kept, for the stale test

@@ -1,7 +1,7 @@
 // The figures that a caller may ask for.
 
 ghost use mathlib.Core.Path.{_≡_};
-ghost use Rattle.metrics.specs.Accessors.{srttMsOf, lossRateOf, smoothedLossOf, qualityIndexOf, smoothedEtxOf, goodputBpsOf, lastEcnCeCountOf, countersKept, rrCountersOf, reportsSeenOf, rttSamplesOf, rttZeroOf, rttArithFailOf, lastRttMsOf};
+ghost use Rattle.metrics.specs.Accessors.{srttMsOf, lossRateOf, smoothedLossOf, qualityIndexOf, smoothedEtxOf, goodputBpsOf, lastEcnCeCountOf, countersKept, rrCountersOf, reportsSeenOf, rttSamplesOf, rttZeroOf, rttArithFailOf, staleReportsOf, noEchoReportsOf, lastRttMsOf};
 use crate::AnswerCounters;
 use crate::MmpMetrics;
 use crate::RrCounters;
@@ -127,6 +127,20 @@ impl MmpMetrics {
         ensures { λ r. ⌜ r ≡ rttArithFailOf self ⌝ }
     {
         AnswerU64::of(self.refusal(), self.rtt_arith_fail)
+    }
+
+    // Reports that were stale.
+    pub fn stale_reports(self) -> AnswerU64
+        ensures { λ r. ⌜ r ≡ staleReportsOf self ⌝ }
+    {
+        AnswerU64::of(self.refusal(), self.stale_reports)
+    }
+
+    // Fresh reports whose echo was 0.
+    pub fn no_echo_reports(self) -> AnswerU64
+        ensures { λ r. ⌜ r ≡ noEchoReportsOf self ⌝ }
+    {
+        AnswerU64::of(self.refusal(), self.no_echo_reports)
     }
 
     // The most recent accepted per-exchange RTT in ms.

@@ -85,6 +85,10 @@ pub struct MmpMetrics {
     pub rtt_arith_fail: u64,
     // The most recent accepted RTT in ms, which SRTT smooths away.
     pub last_rtt_ms: OptionU32,
+    // Stale reports.
+    pub stale_reports: u64,
+    // Fresh reports whose echo was 0.
+    pub no_echo_reports: u64,
 }
 
 // A state after a call that may refuse.
@@ -150,6 +154,8 @@ impl MmpMetrics {
             rtt_zero: 0,
             rtt_arith_fail: 0,
             last_rtt_ms,
+            stale_reports: 0,
+            no_echo_reports: 0,
         }
     }
 
@@ -192,6 +198,8 @@ impl MmpMetrics {
         let ratios = self.ratios_ok();
         let tallies = tallies_ok(
             self.reports_seen,
+            self.stale_reports,
+            self.no_echo_reports,
             self.rtt_samples,
             self.rtt_zero,
             self.rtt_arith_fail,

@@ -6,7 +6,7 @@ mod stale; // reports/stale.rt: the stale test
 mod joined; // reports/joined.rt: joined tests, for speed alone
 
 ghost use mathlib.Core.Path.{_≡_};
-ghost use Rattle.metrics.specs.Reports.{Room, newerReport, processed, refused, processRefusal, processOf};
+ghost use Rattle.metrics.specs.Reports.{Room, newerReport, refused, processRefusal, processOf};
 use crate::MmpMetrics;
 use crate::Outcome;
 use crate::ReportProcessed;
@@ -55,24 +55,12 @@ impl MmpMetrics {
         }
     }
 
-    // A report that is counted: stale or not.
-    fn process(self, rr: ReceiverReport, our_timestamp_ms: u32, now_ms: u64) -> ReportProcessed
-        requires { ⌜ Room self ⌝ }
-        ensures { λ r. ⌜ r ≡ processed self rr «our_timestamp_ms» «now_ms» ⌝ }
-    {
-        if self.finds_stale(rr) {
-            self.stale_report()
-        } else {
-            self.newer_report(rr, our_timestamp_ms, now_ms)
-        }
-    }
-
     // The refusal of a report.
     fn report_refusal(self, now_ms: u64) -> u8
         ensures { λ r. ⌜ r ≡ processRefusal self «now_ms» ⌝ }
     {
-        if self.numbers_near(now_ms) {
-            if self.floats_near() {
+        if self.floats_near() {
+            if self.numbers_near(now_ms) {
                 return 0;
             }
         }
@@ -93,13 +81,15 @@ impl MmpMetrics {
         ensures { λ r. ⌜ r ≡ processOf self rr «our_timestamp_ms» «now_ms» ⌝ }
     {
         let refusal = self.report_refusal(now_ms);
-        if refusal == 0 {
-            // Counted before the stale test: "a report arrived at all", not "a report was useful".
-            let mut counted = self;
-            counted.reports_seen = self.reports_seen + 1;
-            counted.process(rr, our_timestamp_ms, now_ms)
-        } else {
-            self.refuse(refusal)
+        if refusal != 0 {
+            return self.refuse(refusal);
         }
+        // Counted before the stale test: "a report arrived at all", not "a report was useful".
+        let mut counted = self;
+        counted.reports_seen = self.reports_seen + 1;
+        if counted.finds_stale(rr) {
+            return counted.stale_report();
+        }
+        counted.newer_report(rr, our_timestamp_ms, now_ms)
     }
 }

@@ -1,10 +1,7 @@
 -- THE RULE that question 1 asks of each record is document 01's, clause by clause.
-use mathlib.Core.Path.{_≡_, refl}
-use Prim.Native.Nat.{ℕ}
-use mathlib.Core.Bool.{Bool, true, false, cond, not, _&&_, _||_}
-use Rattle.refusals.specs.Ranges.{optionalClockOk}
-use Rattle.refusals.specs.declared.option.OptionU64.{OptionU64}
-use Rattle.refusals.specs.declared.option.OptionU64.the-variants.{None, Some}
+use mathlib.Core.Path.{_≡_, refl, _∙_}
+use native.Mathlib.Omega.{arith}
+use mathlib.Core.Bool.{true}
 use Rattle.algorithms.specs.Ewma as ewma
 use Rattle.algorithms.specs.Owd as owd
 use Rattle.algorithms.specs.Spin as spin
@@ -17,7 +14,8 @@ use Rattle.metrics.specs.State as metrics
 use Rattle.sender.specs.declared.SenderState.{SenderState}
 use Rattle.receiver.specs.declared.ReceiverState.{ReceiverState}
 use Rattle.metrics.specs.declared.MmpMetrics.{MmpMetrics}
-use Rattle.sentences.specs.StateRule.{optionalClock, deadline, spinRule, senderRule, receiverRule, metricsRule}
+use Rattle.metrics.proofs.QuestionsAnswered.{sum-seen}
+use Rattle.sentences.specs.StateRule.{spinRule, senderRule, receiverRule, metricsRule, NoneAbove}
 
 pub sender-rule : (s : SenderState) → sender.keepsRule s ≡ senderRule s
 unfolding sender.keepsRule senderRule
@@ -34,3 +32,8 @@ receiver-rule s = refl
 pub metrics-rule : (m : MmpMetrics) → metrics.keepsRule m ≡ metricsRule m
 unfolding metrics.keepsRule metrics.trendsOk metrics.ratiosOk metricsRule ewma.keepsRule srtt.keepsRule
 metrics-rule m = refl
+
+pub none-above : (m : MmpMetrics) → metricsRule m ≡ true → NoneAbove m
+none-above m h =
+    let e = sum-seen m (metrics-rule m ∙ h) in
+    record { stale = omega (arith, e); no-echo = omega (arith, e); samples = omega (arith, e); zeros = omega (arith, e); failures = omega (arith, e) }

@@ -1,6 +1,6 @@
 -- Document 01, "State rule", of each record and of what stands in it. Definitions only.
 use mathlib.Core.Bool.{Bool, true, cond, not, _&&_, _||_}
-use Prim.Native.Nat.{ℕ, _+_, _-_, _*_}
+use Prim.Native.Nat.{ℕ, _+_, _-_, _*_, _≤_}
 use lib.Dec.{leb, ltb, eqb}
 use lib.Ieee.{Float}
 use Rattle.refusals.specs.declared.option.OptionU64.{OptionU64}
@@ -84,11 +84,20 @@ receiverRule s =
     && bursts (s .«gap_tracker»)
     && leb (s .«cumulative_reorder_count») (s .«cumulative_packets_recv»)
 
--- with "Samples, zeros and arithmetic failures together do not exceed reports seen"
+-- with document 02, W-205, "Each of the five kinds (stale, no echo, sample, zero, arithmetic failure)", "and their sum equals reports seen. The state rule requires
+-- that sum": of numbers, so that no sum wraps
 unfoldable pub metricsRule : MmpMetrics → Bool
 metricsRule m =
     optionalClock (m .«prev_rr_ms»)
     && estimator (m .srtt)
     && (trend (m .«rtt_trend») && trend (m .«loss_trend») && trend (m .«goodput_trend») && trend (m .«jitter_trend») && trend (m .«etx_trend»))
     && (ratio (m .«delivery_ratio_forward») && ratio (m .«delivery_ratio_reverse») && etx (m .etx) && goodput (m .«goodput_bps»))
-    && leb (m .«rtt_samples» + m .«rtt_zero» + m .«rtt_arith_fail») (m .«reports_seen»)
+    && eqb (m .«stale_reports» + m .«no_echo_reports» + m .«rtt_samples» + m .«rtt_zero» + m .«rtt_arith_fail») (m .«reports_seen»)
+
+-- so that no kind is full before reports seen, of which alone question 10 asks
+pub record NoneAbove (m : MmpMetrics) : Type 0 where
+  pub stale : m .«stale_reports» ≤ m .«reports_seen»
+  pub no-echo : m .«no_echo_reports» ≤ m .«reports_seen»
+  pub samples : m .«rtt_samples» ≤ m .«reports_seen»
+  pub zeros : m .«rtt_zero» ≤ m .«reports_seen»
+  pub failures : m .«rtt_arith_fail» ≤ m .«reports_seen»

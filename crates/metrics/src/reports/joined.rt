@@ -7,8 +7,7 @@ ghost use lib.Ieee.{binary64, add};
 ghost use Rattle.floats.specs.Operations.{lesser};
 ghost use Rattle.refusals.specs.Ranges.{clockOk, optionalClockOk, roundTripOk, counterOk};
 ghost use Rattle.algorithms.specs.Srtt as estimator;
-ghost use Rattle.figures.specs.RoundTrips.{talliesOk};
-ghost use Rattle.metrics.specs.State.{trendsOk, ratiosOk};
+ghost use Rattle.metrics.specs.State.{trendsOk, ratiosOk, tallied};
 use crate::MmpMetrics;
 use figures::tallies_ok;
 use floats::least;
@@ -99,7 +98,7 @@ impl MmpMetrics {
     pub(crate) fn numbers_near(self, now_ms: u64) -> bool
         ensures { λ r. ⌜ (r ≡ true → (optionalClockOk (self .«prev_rr_ms») ≡ true)
             × (estimator.keepsRule (self .srtt) ≡ true)
-            × (talliesOk (self .«reports_seen») (self .«rtt_samples») (self .«rtt_zero») (self .«rtt_arith_fail») ≡ true)
+            × (tallied self ≡ true)
             × (clockOk «now_ms» ≡ true)
             × (counterOk 64 (self .«reports_seen») 1 ≡ true)) ⌝ }
     {
@@ -107,17 +106,21 @@ impl MmpMetrics {
         let prev = unwrap_or_zero(prev_rr_ms);
         let smoothed = near_us(self.srtt.srtt_us);
         let variation = near_us(self.srtt.rttvar_us);
-        let tallies = tallies_ok(
-            self.reports_seen,
-            self.rtt_samples,
-            self.rtt_zero,
-            self.rtt_arith_fail,
-        );
-        (prev < NEAR_CLOCK_OR_COUNT)
+        let near = (prev < NEAR_CLOCK_OR_COUNT)
             & (now_ms < NEAR_CLOCK_OR_COUNT)
             & (self.reports_seen < NEAR_CLOCK_OR_COUNT)
             & smoothed
-            & variation
-            & tallies
+            & variation;
+        if near {} else {
+            return false;
+        }
+        tallies_ok(
+            self.reports_seen,
+            self.stale_reports,
+            self.no_echo_reports,
+            self.rtt_samples,
+            self.rtt_zero,
+            self.rtt_arith_fail,
+        )
     }
 }

@@ -51,6 +51,8 @@ impl MmpMetrics {
             rtt_zero: self.rtt_zero,
             rtt_arith_fail: self.rtt_arith_fail,
             last_rtt_ms,
+            stale_reports: self.stale_reports,
+            no_echo_reports: self.no_echo_reports,
         }
     }
 
@@ -59,7 +61,11 @@ impl MmpMetrics {
         ensures { λ r. ⌜ r ≡ rttUpdated self trip ⌝ }
     {
         match trip {
-            RoundTrip::NoEcho => self,
+            RoundTrip::NoEcho => {
+                let mut state = self;
+                state.no_echo_reports = self.no_echo_reports + 1;
+                state
+            }
             RoundTrip::Sample(ms) => self.sample(ms),
             RoundTrip::Zero => {
                 let mut state = self;

@@ -3,7 +3,7 @@
 ghost use mathlib.Core.Path.{_≡_};
 ghost use Rattle.figures.specs.Stale.{stale};
 ghost use Rattle.metrics.specs.State.{savedIn};
-ghost use Rattle.metrics.specs.Reports.{staleReport};
+ghost use Rattle.metrics.specs.Reports.{Room, staleReport};
 use crate::MmpMetrics;
 use crate::Outcome;
 use crate::ReportProcessed;
@@ -31,11 +31,13 @@ impl MmpMetrics {
         }
     }
 
-    // A stale report moves nothing.
+    // A stale report raises its count, and moves nothing.
     pub(crate) fn stale_report(self) -> ReportProcessed
+        requires { ⌜ Room self ⌝ }
         ensures { λ r. ⌜ r ≡ staleReport self ⌝ }
     {
-        let state = self;
+        let mut state = self;
+        state.stale_reports = self.stale_reports + 1;
         let log = RrLog::Stale {
             prev_highest: self.prev_rr_highest_counter,
             prev_packets: self.prev_rr_cum_packets,

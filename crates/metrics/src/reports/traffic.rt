@@ -114,6 +114,8 @@ impl MmpMetrics {
             rtt_zero: self.rtt_zero,
             rtt_arith_fail: self.rtt_arith_fail,
             last_rtt_ms,
+            stale_reports: self.stale_reports,
+            no_echo_reports: self.no_echo_reports,
         }
     }
 

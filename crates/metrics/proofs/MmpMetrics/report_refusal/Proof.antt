@@ -8,9 +8,9 @@ use Rattle.metrics.proofs.MmpMetrics.report_refusal.Tie as tie
 
 within : tie.Need-returns
 within c =
-    let numbers = c .before .before in
-    let a = numbers .before .before .args in
-    sym (all-answered (a .self) (a .now-ms) (c .before .floats-near .ensures (c .if2 .taken)) (numbers .before .numbers-near .ensures (numbers .if1 .taken)))
+    let floats = c .before .before in
+    let a = floats .before .before .args in
+    sym (all-answered (a .self) (a .now-ms) (floats .before .floats-near .ensures (floats .if1 .taken)) (c .before .numbers-near .ensures (c .if2 .taken)))
 
 each-asked : tie.Need-returns-2
 unfolding processRefusal firstNo asked

@@ -6,7 +6,7 @@ use Rattle.metrics.proofs.MmpMetrics.update_rtt.Tie as tie
 
 no-echo : tie.Need-returns
 unfolding rttUpdated
-no-echo c = rw (c .enum-told .given .1)
+no-echo c = rw (c .before .enum-told .given .1)
 
 sample : tie.Need-returns-2
 unfolding rttUpdated
@@ -21,4 +21,4 @@ unfolding rttUpdated
 failed c = rw (c .before .enum-told3 .given .1)
 
 pub update-rtt-spec : {M : Type 1} → statement M
-update-rtt-spec = tie.close (tie.spec (λ c. search needs) (λ c. search needs) (λ c κs. c .before .before .before .pre) (λ c. search needs) (λ c. search needs) (λ c. search needs) (λ c. search needs) no-echo sample zero failed)
+update-rtt-spec = tie.close (tie.spec (λ c. search needs) (λ c. search needs) (λ c. search needs) (λ c κs. c .before .before .before .pre) (λ c. search needs) (λ c. search needs) (λ c. search needs) (λ c. search needs) no-echo sample zero failed)
