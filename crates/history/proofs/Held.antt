@@ -1,21 +1,19 @@
--- What the accepted calls on the records of an end leave them: each record is what those calls reach by themselves, keeps its rule, and is tied to the exact averages
--- and the lateness of the calls.
+-- What the accepted calls on the records of an end leave them: each record is what those calls reach by themselves; a sender's and a receiver's keep their rules, and a
+-- receiver's is tied to the exact jitter and the lateness of the calls. What holds of a metrics record is `ReachedHolds`.
 use mathlib.Core.Path.{_≡_, refl, _∙_, ap}
 use mathlib.Core.Bool.{true}
 use mathlib.Core.List.{List}
 use Rattle.sender.specs.State as senders
 use Rattle.sender.specs.declared.SenderState.{SenderState}
 use Rattle.receiver.specs.declared.ReceiverState.{ReceiverState}
-use Rattle.metrics.specs.declared.MmpMetrics.{MmpMetrics}
 use Rattle.history.specs.Run.{runOf}
 use Rattle.history.specs.SenderCalls.{SenderNew, newSender, SenderCall, senderStep}
 use Rattle.history.specs.ReceiverCalls.{ReceiverNew, newReceiver, ReceiverCall, receiverStep}
-use Rattle.history.specs.MetricsCalls.{MetricsNew, newMetrics, MetricsCall, metricsStep}
+use Rattle.history.specs.Meant.{Reached, begun, next}
 use Rattle.history.specs.Ends.{End, EndNew, newEnd, EndCall, on-sender, on-receiver, on-metrics, endStep, Log, noCalls, endNote, endFits}
 use Rattle.history.specs.Asked.{capacityOf}
 use Rattle.history.proofs.JitterTied as jitters
 use Rattle.history.proofs.LatenessTied as lateness
-use Rattle.history.proofs.RoundTripTied as trips
 use Rattle.history.proofs.RulesKept as rules
 use Rattle.history.proofs.ReceiverAsked.{new-capacity, capacity-next}
 
@@ -30,22 +28,17 @@ pub record ReceiverHeld (k : ReceiverNew) (l : List ReceiverCall) (s : ReceiverS
   pub lateness : lateness.Tied (lateness.exactOf l) s
   pub capacity : s .«owd_trend» .capacity ≡ capacityOf k
 
-pub record MetricsHeld (k : MetricsNew) (l : List MetricsCall) (m : MmpMetrics) : Type 0 where
-  pub alone : m ≡ runOf metricsStep (newMetrics k) l
-  pub lawful : rules.Measuring m
-  pub trips : trips.Tied l m
-
 pub record Held (k : EndNew) (x : Log) (e : End) : Type 0 where
   pub sender : SenderHeld (k .sender) (x .sender) (e .sender)
   pub receiver : ReceiverHeld (k .receiver) (x .receiver) (e .receiver)
-  pub metrics : MetricsHeld (k .metrics) (x .metrics) (e .metrics)
+  pub metrics : Reached (x .metrics) (e .metrics)
 
 pub new-held : (k : EndNew) → Held k noCalls (newEnd k)
 unfolding runOf
 new-held k = record {
   sender = record { alone = refl; rule = rules.new-sender (k .sender) };
   receiver = record { alone = refl; lawful = rules.new-receiver (k .receiver); jitter = jitters.new-tied (k .receiver); lateness = lateness.new-tied (k .receiver); capacity = new-capacity (k .receiver) };
-  metrics = record { alone = refl; lawful = rules.new-metrics (k .metrics); trips = trips.new-tied (k .metrics) };
+  metrics = begun (k .metrics);
 }
 
 pub held-next : (c : EndCall) (k : EndNew) (x : Log) (e : End) → endFits c → endStep c e .refusal ≡ 0 → Held k x e → Held k (endNote c x) (endStep c e .state)
@@ -70,10 +63,5 @@ held-next (on-receiver c) k x e f z h = record {
 held-next (on-metrics c) k x e f z h = record {
   sender = h .sender;
   receiver = h .receiver;
-  metrics =
-      record {
-        alone = ap (λ (m : MmpMetrics). metricsStep c m .state) (h .metrics .alone);
-        lawful = rules.metrics-next c (e .metrics) f z (h .metrics .lawful);
-        trips = trips.tied-next c (x .metrics) (e .metrics) z (h .metrics .trips);
-      };
+  metrics = next c f z (h .metrics);
 }

@@ -21,6 +21,8 @@ use Rattle.metrics.specs.Accessors.{
   rttSamplesOf,
   rttZeroOf,
   rttArithFailOf,
+  staleReportsOf,
+  noEchoReportsOf,
   lastRttMsOf,
 }
 use Rattle.metrics.specs.declared.MmpMetrics.{MmpMetrics}
@@ -36,7 +38,7 @@ module _ (m : MmpMetrics) (rule : keepsRule m ≡ true) where
 
   -- every question but `keeps_rule` asks the rule, and is refused by nothing else
   told-lawful : (q : MetricsQuestion) → Lawful paper.ruleAlone (metricsTold q m .refusal)
-  unfolding metricsTold srttMsOf lossRateOf smoothedLossOf qualityIndexOf smoothedEtxOf goodputBpsOf lastEcnCeCountOf rrCountersOf rttSamplesOf rttZeroOf rttArithFailOf lastRttMsOf answerU32 answerU64 answerF64 answerOptionU32 answerOptionF64
+  unfolding metricsTold srttMsOf lossRateOf smoothedLossOf qualityIndexOf smoothedEtxOf goodputBpsOf lastEcnCeCountOf rrCountersOf rttSamplesOf rttZeroOf rttArithFailOf noEchoReportsOf lastRttMsOf answerU32 answerU64 answerF64 answerOptionU32 answerOptionF64
   told-lawful MetricsQuestion.«keeps_rule» = never-refused
   told-lawful MetricsQuestion.«srtt_ms» = asks-rule
   told-lawful MetricsQuestion.«loss_rate» = asks-rule
@@ -49,12 +51,14 @@ module _ (m : MmpMetrics) (rule : keepsRule m ≡ true) where
   told-lawful MetricsQuestion.«rtt_samples» = asks-rule
   told-lawful MetricsQuestion.«rtt_zero» = asks-rule
   told-lawful MetricsQuestion.«rtt_arith_fail» = asks-rule
+  told-lawful MetricsQuestion.«no_echo_reports» = asks-rule
   told-lawful MetricsQuestion.«last_rtt_ms» = asks-rule
 
   pub metrics-lawful : (c : MetricsCall) → Lawful (paper.toMetrics c) (metricsStep c m .refusal)
-  unfolding firstNo metricsStep processRefusal rekeyOf reverseOf reportsSeenOf answerU64
+  unfolding firstNo metricsStep processRefusal rekeyOf reverseOf reportsSeenOf staleReportsOf answerU64
   metrics-lawful (MetricsCall.«process_receiver_report» rr ours now) = rw (process-refusal m rr ours now, rule) (behind-rule (paper.ask 2 (paper.clock now) ∷ []) (question 10 (counterOk 64 (m .«reports_seen») 1) ∷ []) refl)
   metrics-lawful MetricsCall.«reset_for_rekey» = asks-rule
   metrics-lawful (MetricsCall.«update_reverse_delivery» packets highest) = asks-rule
   metrics-lawful MetricsCall.«reports_seen» = asks-rule
+  metrics-lawful MetricsCall.«stale_reports» = asks-rule
   metrics-lawful (MetricsCall.ask q) = told-lawful q

@@ -7,6 +7,8 @@ use Rattle.metrics.proofs.MmpMetrics.process_receiver_report.Reads as process-r
 use Rattle.metrics.proofs.MmpMetrics.reset_for_rekey.Reads as reset-for-rekey
 use Rattle.metrics.proofs.MmpMetrics.update_reverse_delivery.Reads as update-reverse-delivery
 use Rattle.metrics.proofs.MmpMetrics.reports_seen.Reads as reports-seen
+use Rattle.metrics.proofs.MmpMetrics.stale_reports.Reads as stale-reports
+use Rattle.metrics.proofs.MmpMetrics.no_echo_reports.Reads as no-echo-reports
 use Rattle.metrics.proofs.MmpMetrics.keeps_rule.Reads as keeps-rule
 use Rattle.metrics.proofs.MmpMetrics.srtt_ms.Reads as srtt-ms
 use Rattle.metrics.proofs.MmpMetrics.loss_rate.Reads as loss-rate
@@ -55,6 +57,10 @@ pub reports-seen-row : (κs : _) (a : _) (r : _) (s : _) → reports-seen.Learnt
 unfolding metricsStep
 reports-seen-row κs a r s e = ap (λ x. staying (a .0) (told.u64 x)) e
 
+pub stale-reports-row : (κs : _) (a : _) (r : _) (s : _) → stale-reports.Learnt κs a r s → staying (a .0) (told.u64 r) ≡ metricsStep MetricsCall.«stale_reports» (a .0)
+unfolding metricsStep
+stale-reports-row κs a r s e = ap (λ x. staying (a .0) (told.u64 x)) e
+
 pub keeps-rule-row : (κs : _) (a : _) (r : _) (s : _) → keeps-rule.Learnt κs a r s → staying (a .0) (told.rule r) ≡ metricsStep (MetricsCall.ask MetricsQuestion.«keeps_rule») (a .0)
 unfolding metricsStep metricsTold
 keeps-rule-row κs a r s e = ap (λ x. staying (a .0) (told.rule x)) e
@@ -102,6 +108,10 @@ rtt-zero-row κs a r s e = ap (λ x. staying (a .0) (told.u64 x)) e
 pub rtt-arith-fail-row : (κs : _) (a : _) (r : _) (s : _) → rtt-arith-fail.Learnt κs a r s → staying (a .0) (told.u64 r) ≡ metricsStep (MetricsCall.ask MetricsQuestion.«rtt_arith_fail») (a .0)
 unfolding metricsStep metricsTold
 rtt-arith-fail-row κs a r s e = ap (λ x. staying (a .0) (told.u64 x)) e
+
+pub no-echo-reports-row : (κs : _) (a : _) (r : _) (s : _) → no-echo-reports.Learnt κs a r s → staying (a .0) (told.u64 r) ≡ metricsStep (MetricsCall.ask MetricsQuestion.«no_echo_reports») (a .0)
+unfolding metricsStep metricsTold
+no-echo-reports-row κs a r s e = ap (λ x. staying (a .0) (told.u64 x)) e
 
 pub last-rtt-ms-row : (κs : _) (a : _) (r : _) (s : _) → last-rtt-ms.Learnt κs a r s → staying (a .0) (told.optional-u32 r) ≡ metricsStep (MetricsCall.ask MetricsQuestion.«last_rtt_ms») (a .0)
 unfolding metricsStep metricsTold

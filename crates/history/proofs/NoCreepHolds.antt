@@ -12,9 +12,11 @@ use Rattle.refusals.proofs.Clauses.{left, right}
 use Rattle.refusals.specs.Ranges.{ratioOk, etxOk}
 use Rattle.algorithms.specs.Srtt.{estimateIn}
 use Rattle.algorithms.specs.declared.srtt.SrttEstimator.{SrttEstimator}
+use Rattle.metrics.specs.declared.MmpMetrics.{MmpMetrics}
 use Rattle.metrics.proofs.QuestionsAnswered.{kept}
-use Rattle.history.specs.Run.{Entry, All, entry, notFull, callsLeft, asTheyWere, restored}
+use Rattle.history.specs.Run.{Entry, All, entry, fits, notFull, callsLeft, asTheyWere, restored}
 use Rattle.history.specs.ExactRoundTrip as exact
+use Rattle.history.specs.Meant.{History, Reached}
 use Rattle.history.specs.Ends.{End, EndNew, EndCall, on-sender, on-receiver, on-metrics, endStep, Log, Side, Two, at, put, Call, ends}
 use Rattle.history.specs.Asked.{capacityOf, putTo}
 use Rattle.history.specs.Paper.{greatestEtx}
@@ -26,6 +28,7 @@ use Rattle.history.proofs.SenderAsked.{sender-lawful}
 use Rattle.history.proofs.ReceiverAsked.{receiver-lawful}
 use Rattle.history.proofs.MetricsAsked.{metrics-lawful}
 use Rattle.history.proofs.Held.{Held, new-held, held-next}
+use Rattle.history.proofs.ReachedHolds.{reached-tied, reached-lawful, kinds-hold, reached-run}
 use Rattle.history.proofs.ReportsBuilt.{end-builds-near}
 use Rattle.history.proofs.StruckOut.{Like, new-like, refusal-alike, answer-alike, state-alike, stale-idle, records-restored}
 
@@ -46,24 +49,22 @@ etx-between : (x : Float) → etxOk x ≡ true → Between 1 greatestEtx x
 unfolding ofInt
 etx-between x h = between 1 100 x h
 
-figures : (k : EndNew) (x : Log) (e : End) → Held k x e → FiguresHold (x .metrics) (e .metrics)
-figures k x e h =
-    let t = h .metrics .trips in
-    let rule = kept (e .metrics) (h .metrics .lawful .rule) in
-    let same : recorded (e .metrics .srtt) ≡ estimateOf (exact.roundTrips (x .metrics)) = recorded-as (e .metrics .srtt) ∙ t .estimate in
+figures : {l : History} {m : MmpMetrics} → Reached l m → FiguresHold l m
+figures {l} {m} r =
+    let rule = kept m (reached-lawful r .rule) in
+    let same : recorded (m .srtt) ≡ estimateOf (exact.roundTrips l) = recorded-as (m .srtt) ∙ reached-tied r .estimate in
     record {
-      smoothed = rw same (smoothed-milliseconds (exact.tripsMs (x .metrics)));
-      variation = rw same (variation-milliseconds (exact.tripsMs (x .metrics)));
-      forward = ratio-between (e .metrics .«delivery_ratio_forward») (rule .forward);
-      reverse = ratio-between (e .metrics .«delivery_ratio_reverse») (rule .reverse);
-      etx = etx-between (e .metrics .etx) (rule .etx);
-      seen = t .seen;
+      smoothed = rw same (smoothed-milliseconds (exact.tripsMs l));
+      variation = rw same (variation-milliseconds (exact.tripsMs l));
+      forward = ratio-between (m .«delivery_ratio_forward») (rule .forward);
+      reverse = ratio-between (m .«delivery_ratio_reverse») (rule .reverse);
+      etx = etx-between (m .etx) (rule .etx);
     }
 
 lawful : (c : EndCall) (k : EndNew) (x : Log) (e : End) → Held k x e → Lawful (putTo k c) (endStep c e .refusal)
 lawful (on-sender c) k x e h = sender-lawful (e .sender) (h .sender .rule) c
 lawful (on-receiver c) k x e h = receiver-lawful (e .receiver) (h .receiver .lawful .rule) (capacityOf (k .receiver)) (h .receiver .capacity) c
-lawful (on-metrics c) k x e h = metrics-lawful (e .metrics) (h .metrics .lawful .rule) c
+lawful (on-metrics c) k x e h = metrics-lawful (e .metrics) (reached-lawful (h .metrics) .rule) c
 
 -- ---- both ends
 -- what holds at each side still does when one is set and holds there
@@ -84,7 +85,7 @@ module _ (k : Two EndNew) where
   both-new Side.west = new-held (k .west)
   both-new Side.east = new-held (k .east)
 
-  both-next : (c : Call) (x : Two Log) (w : Two End) → ends .Fits c → ends .step c w .refusal ≡ 0 → Both x w → Both (ends .note c x) (ends .step c w .state)
+  both-next : (c : Call) (x : Two Log) (w : Two End) → ends .Fits c 0 x → ends .step c w .refusal ≡ 0 → Both x w → Both (ends .note c x) (ends .step c w .state)
   both-next c x w f z h = let s = c .side in put-at (λ t. Held (at t k)) s x w (held-next (c .call) (at s k) (at s x) (at s w) f z (h s)) h
 
   alike-new : Alike noneStruck (begun k) (begun k)
@@ -102,36 +103,41 @@ module _ (k : Two EndNew) where
       go (suc n) z st = let z : _≡_ {A = ℕ} 0 1 = cc in absurd (omega arith)
 
 -- ---- the whole
-module _ (k : Two EndNew) (h : List Call) (fits : All (ends .Fits) h) where
+module _ (k : Two EndNew) (h : List Call) (fit : All (fits ends) (written k h)) where
   pub held : Both k (accepted k h) (reached k h)
-  held = tied-run ends stays (Both k) (both-next k) h fits (both-new k)
+  held = tied-run ends stays (Both k) (both-next k) h fit (both-new k)
 
   pub every : (P : Entry ends → Type 0) → ((c : Call) (x : Two Log) (w : Two End) → Both k x w → P (entry ends c w x)) → All P (written k h)
-  every P one = all-run ends stays (Both k) (both-next k) P one h fits (both-new k)
+  every P one = all-run ends stays (Both k) (both-next k) P one h fit (both-new k)
 
   module _ (places : ℕ → Bool) (full : All (notFull ends) (written k h)) where
     struck :
         (restored ends restore (entriesLeft k places h) (written k (callsLeft ends (entriesLeft k places h))) ≡ asTheyWere ends (entriesLeft k places h))
         × Alike (struckOut k places h) (reached k h) (reached k (callsLeft ends (entriesLeft k places h)))
+        × All (fits ends) (written k (callsLeft ends (entriesLeft k places h)))
     struck =
-        let r = strike-run ends stays (Both k) (both-next k) oneMore staleEntry restore Alike
-        (λ c t w v l ne. let s = c .side in refusal-alike (c .call) (at s t) (at s w) (at s v) (l s) ne)
+        let r = strike-run ends stays (Both k) (both-next k) oneMore staleEntry restore Alike (λ x y. Unit {0})
+        (λ c t x w v r l ne. let s = c .side in refusal-alike (c .call) (at s t) (at s w) (at s v) (l s) ne)
         (λ c t x w v r l z. let s = c .side in answer-alike (c .call) (at s t) (at s k) (at s x) (at s w) (at s v) (r s) (l s) z)
-        (λ c t w v l y z. let s = c .side in put-at (λ u e f. Like (at u t) e f) s w v (state-alike (c .call) (at s t) (at s w) (at s v) (l s) y z) l)
-        (alike-idle k) h places noneStruck noneYet noneYet (begun k) (begun k) fits (both-new k) (alike-new k) full in
-        (r .answers, r .records)
+        (λ c t x w v f r l y z. let s = c .side in put-at (λ u e f. Like (at u t) e f) s w v (state-alike (c .call) (at s t) (at s w) (at s v) (l s) y z) l)
+        (alike-idle k) (λ c n x y g f. f) (λ c x y g. g) (λ c x y w g m. g)
+        h places noneStruck noneYet noneYet (begun k) (begun k) fit (both-new k) (alike-new k) tt full in
+        (r .answers, r .records, r .fit)
 
 pub no-creep : NoCreepHolds
-no-creep k h fits =
+no-creep k h fit =
     record {
-      alone = λ s. let e = held k h fits s in record { sender = e .sender .alone; receiver = e .receiver .alone; metrics = e .metrics .alone };
-      rules = λ s. let e = held k h fits s in record { sender = e .sender .rule; receiver = e .receiver .lawful .rule; metrics = e .metrics .lawful .rule };
-      figures = λ s. figures (at s k) (at s (accepted k h)) (at s (reached k h)) (held k h fits s);
-      not-by-rule = every k h fits NotByRule (λ c x w e. let s = c .side in lawful (c .call) (at s k) (at s x) (at s w) (e s) .not-by-rule);
-      as-asked = every k h fits (AsAsked k) (λ c x w e. let s = c .side in lawful (c .call) (at s k) (at s x) (at s w) (e s) .as-asked);
-      reports = every k h fits ReportHolds (λ c x w e. let s = c .side in end-builds-near (c .call) (at s x) (at s w) (e s .receiver .jitter));
-      answers = λ places full. struck k h fits places full .0;
+      alone = λ s. let e = held k h fit s in record { sender = e .sender .alone; receiver = e .receiver .alone; metrics = reached-run (at s k .metrics) (e .metrics) };
+      rules = λ s. let e = held k h fit s in record { sender = e .sender .rule; receiver = e .receiver .lawful .rule; metrics = reached-lawful (e .metrics) .rule };
+      reaches = λ s. held k h fit s .metrics;
+      figures = λ s. figures (held k h fit s .metrics);
+      kinds = λ s. kinds-hold (held k h fit s .metrics);
+      not-by-rule = every k h fit NotByRule (λ c x w e. let s = c .side in lawful (c .call) (at s k) (at s x) (at s w) (e s) .not-by-rule);
+      as-asked = every k h fit (AsAsked k) (λ c x w e. let s = c .side in lawful (c .call) (at s k) (at s x) (at s w) (e s) .as-asked);
+      reports = every k h fit ReportHolds (λ c x w e. let s = c .side in end-builds-near (c .call) (at s x) (at s w) (e s .receiver .jitter));
+      answers = λ places full. struck k h fit places full .0;
       records = λ places full s.
           let calls = callsLeft ends (entriesLeft k places h) in
-          records-restored (at s (struckOut k places h)) (at s (reached k h)) (at s (reached k calls)) (struck k h fits places full .1 s);
+          records-restored (at s (struckOut k places h)) (at s (reached k h)) (at s (reached k calls)) (struck k h fit places full .1 s);
+      still-fits = λ places full. struck k h fit places full .2;
     }

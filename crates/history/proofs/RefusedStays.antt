@@ -96,6 +96,7 @@ metrics-stays (MetricsCall.«process_receiver_report» rr ours now) m ne = proce
 metrics-stays MetricsCall.«reset_for_rekey» m ne = refused _ _ m ne
 metrics-stays (MetricsCall.«update_reverse_delivery» packets highest) m ne = refused _ _ m ne
 metrics-stays MetricsCall.«reports_seen» m ne = refl
+metrics-stays MetricsCall.«stale_reports» m ne = refl
 metrics-stays (MetricsCall.ask q) m ne = refl
 
 -- ---- both ends

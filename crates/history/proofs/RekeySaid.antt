@@ -40,6 +40,8 @@ stay m =
       zeros = refl;
       failures = refl;
       last = refl;
+      stale = refl;
+      no-echo = refl;
     }
 
 said : (m : MmpMetrics) → Rekeyed m (rekeyed m)

@@ -40,6 +40,7 @@ metrics-build-none (MetricsCall.«process_receiver_report» rr ours now) m built
 metrics-build-none MetricsCall.«reset_for_rekey» m rr e = clash cc
 metrics-build-none (MetricsCall.«update_reverse_delivery» packets highest) m rr e = clash cc
 metrics-build-none MetricsCall.«reports_seen» m rr e = clash cc
+metrics-build-none MetricsCall.«stale_reports» m rr e = clash cc
 metrics-build-none (MetricsCall.ask q) m rr e = clash cc
 
 -- of a receiver's calls build_report alone answers one, and it is near

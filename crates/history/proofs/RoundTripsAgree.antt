@@ -2,7 +2,7 @@
 use mathlib.Core.Path.{_≡_, refl, ap₂}
 use mathlib.Core.Bool.{Bool, true, false, cond, _&&_, _||_}
 use mathlib.Core.List.{List, [], _∷_, foldl}
-use Prim.Native.Nat.{ℕ, _-_, _<_, _≤_}
+use Prim.Native.Nat.{ℕ, _+_, _-_, _<_, _≤_}
 use native.Mathlib.Nat.{pos-of-ne-zero}
 use native.Mathlib.Omega.{arith}
 use lib.Dec.{ltb, eqb}
@@ -47,6 +47,37 @@ stale-agrees (exact.report k) rr = ap₂ (λ (a b : Bool). a || b) (five ltb one
         P (test (rr .«highest_counter») (k .«highest_counter»)) (test (rr .«cumulative_packets_recv») (k .«cumulative_packets_recv»)) (test (rr .«cumulative_bytes_recv») (k .«cumulative_bytes_recv»)) (test (rr .«ecn_ce_count») (k .«ecn_ce_count»)) (test (rr .«cumulative_reorder_count») (k .«cumulative_reorder_count»))
     five test law = law _ _ _ _ _
 
+-- ---- a round trip by its cases
+module _ (P : RoundTrip → Type 0) (rr : ReceiverReport) (ours : ℕ) where
+  abbrev echo : ℕ
+  echo = rr .«timestamp_echo»
+
+  pub by-trip :
+      (echo ≡ 0 → P NoEcho) →
+      (0 < echo → ours < sendDone rr → P ArithFail) →
+      (0 < echo → ours ≡ sendDone rr → P Zero) →
+      (0 < echo → sendDone rr < ours → P (Sample (ours - sendDone rr))) →
+      P (roundTrip rr ours)
+  unfolding roundTrip
+  by-trip none early same past =
+      go (eqb echo 0) (ltb ours (sendDone rr)) (eqb ours (sendDone rr))
+      (eqb-true echo 0) (eqb-false echo 0) (ltb-true ours (sendDone rr)) (ltb-false ours (sendDone rr)) (eqb-true ours (sendDone rr)) (eqb-false ours (sendDone rr))
+    where
+      go :
+          (a b c : Bool) →
+          (a ≡ true → echo ≡ 0) →
+          (a ≡ false → echo ≡ 0 → ⊥) →
+          (b ≡ true → ours < sendDone rr) →
+          (b ≡ false → sendDone rr ≤ ours) →
+          (c ≡ true → ours ≡ sendDone rr) →
+          (c ≡ false → ours ≡ sendDone rr → ⊥) →
+          P (cond a NoEcho (cond b ArithFail (cond c Zero (Sample (ours - sendDone rr)))))
+      go true b c no-echo some before after equal other = none (no-echo refl)
+      go false true c no-echo some before after equal other = early (pos-of-ne-zero (some refl)) (before refl)
+      go false false true no-echo some before after equal other = same (pos-of-ne-zero (some refl)) (equal refl)
+      go false false false no-echo some before after equal other =
+          past (pos-of-ne-zero (some refl)) (let a = after refl in let b = other refl in omega arith)
+
 -- the round trip that a report gives, if it is a sample
 abbrev pub tripIn : RoundTrip → List ℕ
 tripIn NoEcho = []
@@ -55,39 +86,13 @@ tripIn Zero = []
 tripIn ArithFail = []
 
 pub trip-agrees : (rr : ReceiverReport) (ours : ℕ) → exact.tripMs rr ours ≡ tripIn (roundTrip rr ours)
-unfolding roundTrip exact.tripMs
+unfolding exact.tripMs
 trip-agrees rr ours =
-    go (eqb echo 0) (ltb ours done) (eqb ours done)
-    (eqb-true echo 0) (eqb-false echo 0) (ltb-true ours done) (ltb-false ours done) (eqb-true ours done) (eqb-false ours done)
-  where
-    echo : ℕ
-    echo = rr .«timestamp_echo»
-
-    done : ℕ
-    done = sendDone rr
-
-    given : Bool → List ℕ
-    given b = cond b ((ours - done) ∷ []) []
-
-    none : (a : Bool) → ltb done ours ≡ false → given (a && ltb done ours) ≡ []
-    none true h = rw h
-    none false h = refl
-
-    go :
-        (a b c : Bool) →
-        (a ≡ true → echo ≡ 0) →
-        (a ≡ false → echo ≡ 0 → ⊥) →
-        (b ≡ true → ours < done) →
-        (b ≡ false → done ≤ ours) →
-        (c ≡ true → ours ≡ done) →
-        (c ≡ false → ours ≡ done → ⊥) →
-        given (ltb 0 echo && ltb done ours) ≡ tripIn (cond a NoEcho (cond b ArithFail (cond c Zero (Sample (ours - done)))))
-    go true b c no-echo some early late same other = let h = no-echo refl in rw (le-ltb 0 echo (omega arith))
-    go false true c no-echo some early late same other = none (ltb 0 echo) (le-ltb done ours (let h = early refl in omega arith))
-    go false false true no-echo some early late same other = none (ltb 0 echo) (le-ltb done ours (let h = same refl in omega arith))
-    go false false false no-echo some early late same other =
-        let past : done < ours = let a = late refl in let b = other refl in omega arith in
-        rw (lt-ltb 0 echo (pos-of-ne-zero (some refl)), lt-ltb done ours past)
+    by-trip (λ t. exact.tripMs rr ours ≡ tripIn t) rr ours
+    (λ e. rw (le-ltb 0 (rr .«timestamp_echo») (omega arith)))
+    (λ p e. rw (lt-ltb 0 (rr .«timestamp_echo») p, le-ltb (rr .«timestamp_echo» + rr .«dwell_time») ours (omega arith)))
+    (λ p e. rw (lt-ltb 0 (rr .«timestamp_echo») p, le-ltb (rr .«timestamp_echo» + rr .«dwell_time») ours (omega arith)))
+    (λ p e. rw (lt-ltb 0 (rr .«timestamp_echo») p, lt-ltb (rr .«timestamp_echo» + rr .«dwell_time») ours e))
 
 -- a sample's milliseconds are one round trip of 1000 times as many µs; any other echo gives none
 step-agrees : (e : Estimate) (t : RoundTrip) → afterTrip e t ≡ foldl estimateStep e (multiples 1000 (tripIn t))

@@ -19,7 +19,7 @@ use Rattle.metrics.proofs.RuleKept.{fresh-keeps-rule, fresh-floats, rekey-keeps
 use Rattle.history.specs.SenderCalls.{SenderNew, newSender, SenderCall, senderStep}
 use Rattle.history.specs.ReceiverCalls.{ReceiverNew, newReceiver, ReceiverCall, receiverStep}
 use Rattle.history.specs.MetricsCalls.{MetricsNew, newMetrics, MetricsCall, metricsStep}
-use Rattle.history.specs.Ends.{metricsFits}
+use Rattle.history.specs.Meant.{metricsFits}
 
 -- ---- sender
 pub new-sender : (k : SenderNew) → senders.keepsRule (newSender k) ≡ true
@@ -86,4 +86,5 @@ metrics-next MetricsCall.«reset_for_rekey» m f e h = record { rule = rekey-kee
 metrics-next (MetricsCall.«update_reverse_delivery» packets highest) m f e h =
     record { rule = reverse-keeps-rule m packets highest (f .0) (f .1) (h .floats) e; floats = reverse-floats m packets highest (f .0) (f .1) (h .floats) }
 metrics-next MetricsCall.«reports_seen» m f e h = h
+metrics-next MetricsCall.«stale_reports» m f e h = h
 metrics-next (MetricsCall.ask q) m f e h = h

@@ -143,6 +143,7 @@ toMetrics (MetricsCall.«process_receiver_report» rr ours now) = put (ask 2 (cl
 toMetrics MetricsCall.«reset_for_rekey» = ruleAlone
 toMetrics (MetricsCall.«update_reverse_delivery» packets highest) = ruleAlone
 toMetrics MetricsCall.«reports_seen» = ruleAlone
+toMetrics MetricsCall.«stale_reports» = ruleAlone
 toMetrics (MetricsCall.ask q) = ruleAlone
 
 abbrev pub putTo : EndNew → EndCall → Put

@@ -1,8 +1,6 @@
 -- Two ends, each with a sender, a receiver and a metrics record, and the calls on them: document 01, "A history in demand 3 is its list of calls".
 -- Definitions only.
 use mathlib.Core.List.{List, [], _∷_}
-use Prim.Native.Nat.{_<_, _^_}
-use Rattle.wire.specs.ReceiverReport as wire
 use Rattle.sender.specs.declared.SenderState.{SenderState}
 use Rattle.receiver.specs.declared.ReceiverState.{ReceiverState}
 use Rattle.metrics.specs.declared.MmpMetrics.{MmpMetrics}
@@ -11,6 +9,7 @@ use Rattle.history.specs.Answers.{Answer}
 use Rattle.history.specs.SenderCalls.{SenderNew, newSender, SenderCall, senderStep}
 use Rattle.history.specs.ReceiverCalls.{ReceiverNew, newReceiver, ReceiverCall, receiverStep}
 use Rattle.history.specs.MetricsCalls.{MetricsNew, newMetrics, MetricsCall, metricsStep}
+use Rattle.history.specs.Meant.{History, metricsFits}
 
 -- ---- an end
 pub record End : Type 0 where
@@ -49,7 +48,7 @@ endStep (on-metrics c) e =
 pub record Log : Type 0 where
   pub sender : List SenderCall
   pub receiver : List ReceiverCall
-  pub metrics : List MetricsCall
+  pub metrics : History
 
 abbrev pub noCalls : Log
 noCalls = record { sender = []; receiver = []; metrics = [] }
@@ -59,14 +58,7 @@ endNote (on-sender c) x = record { sender = c ∷ x .sender; receiver = x .recei
 endNote (on-receiver c) x = record { sender = x .sender; receiver = c ∷ x .receiver; metrics = x .metrics }
 endNote (on-metrics c) x = record { sender = x .sender; receiver = x .receiver; metrics = c ∷ x .metrics }
 
--- the arguments fit their types: any fourteen numbers of a report, any u32, any two u64. Of every other call nothing is asked
-abbrev pub metricsFits : MetricsCall → Type 0
-metricsFits (MetricsCall.«process_receiver_report» rr ours now) = wire.Fits rr × (ours < 2 ^ 32)
-metricsFits (MetricsCall.«update_reverse_delivery» packets highest) = (packets < 2 ^ 64) × (highest < 2 ^ 64)
-metricsFits MetricsCall.«reset_for_rekey» = Unit {0}
-metricsFits MetricsCall.«reports_seen» = Unit {0}
-metricsFits (MetricsCall.ask q) = Unit {0}
-
+-- the arguments fit their types
 abbrev pub endFits : EndCall → Type 0
 endFits (on-sender c) = Unit {0}
 endFits (on-receiver c) = Unit {0}
@@ -103,7 +95,7 @@ ends =
       Log = Two Log;
       Call = Call;
       Answer = Answer;
-      Fits = λ c. endFits (c .call);
+      Fits = λ c refusal x. endFits (c .call);
       step = λ c w. sideStep (c .side) (c .call) w;
       note = λ c x. put (c .side) (endNote (c .call) (at (c .side) x)) x;
     }

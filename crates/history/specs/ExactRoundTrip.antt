@@ -41,6 +41,7 @@ keptAfter (MetricsCall.«process_receiver_report» rr ours now ∷ l) = cond (st
 keptAfter (MetricsCall.«reset_for_rekey» ∷ l) = no-report
 keptAfter (MetricsCall.«update_reverse_delivery» packets highest ∷ l) = keptAfter l
 keptAfter (MetricsCall.«reports_seen» ∷ l) = keptAfter l
+keptAfter (MetricsCall.«stale_reports» ∷ l) = keptAfter l
 keptAfter (MetricsCall.ask q ∷ l) = keptAfter l
 
 -- a report that is stale after these calls
@@ -49,6 +50,7 @@ staleCall (MetricsCall.«process_receiver_report» rr ours now) l = stale (keptA
 staleCall MetricsCall.«reset_for_rekey» l = false
 staleCall (MetricsCall.«update_reverse_delivery» packets highest) l = false
 staleCall MetricsCall.«reports_seen» l = false
+staleCall MetricsCall.«stale_reports» l = false
 staleCall (MetricsCall.ask q) l = false
 
 -- ---- the round trips
@@ -66,6 +68,7 @@ tripsMs (MetricsCall.«process_receiver_report» rr ours now ∷ l) = tripsMs l 
 tripsMs (MetricsCall.«reset_for_rekey» ∷ l) = tripsMs l
 tripsMs (MetricsCall.«update_reverse_delivery» packets highest ∷ l) = tripsMs l
 tripsMs (MetricsCall.«reports_seen» ∷ l) = tripsMs l
+tripsMs (MetricsCall.«stale_reports» ∷ l) = tripsMs l
 tripsMs (MetricsCall.ask q ∷ l) = tripsMs l
 
 -- R in µs, "so each round trip is whole milliseconds"
@@ -79,4 +82,5 @@ processed (MetricsCall.«process_receiver_report» rr ours now ∷ l) = processe
 processed (MetricsCall.«reset_for_rekey» ∷ l) = processed l
 processed (MetricsCall.«update_reverse_delivery» packets highest ∷ l) = processed l
 processed (MetricsCall.«reports_seen» ∷ l) = processed l
+processed (MetricsCall.«stale_reports» ∷ l) = processed l
 processed (MetricsCall.ask q ∷ l) = processed l

@@ -11,13 +11,14 @@ use Rattle.numbers.specs.RoundTrip.{average, averageOf, estimate}
 use Rattle.wire.specs.ReceiverReport.{encodedInto, decoded}
 use Rattle.wire.specs.declared.receiver_report.ReceiverReport.{ReceiverReport}
 use Rattle.metrics.specs.declared.MmpMetrics.{MmpMetrics}
-use Rattle.history.specs.Run.{Entry}
+use Rattle.history.specs.Run.{Entry, All, fits}
 use Rattle.history.specs.Answers.{Answer}
 use Rattle.history.specs.SenderCalls.{SenderNew}
 use Rattle.history.specs.ReceiverCalls.{ReceiverNew, ReceiverCall}
 use Rattle.history.specs.MetricsCalls.{MetricsNew, MetricsCall}
 use Rattle.history.specs.ExactJitter.{differences}
 use Rattle.history.specs.ExactRoundTrip.{roundTrips}
+use Rattle.history.specs.Kinds.{of-stale, of-sample, kinds}
 use Rattle.history.specs.Ends.{EndNew, on-receiver, on-metrics, Side, Two, Call, ends}
 use Rattle.history.specs.NoCreep.{written, reached, accepted, recorded, jitterAverage, staleEntry}
 
@@ -29,14 +30,14 @@ abbrev pub begin : Two EndNew
 begin = record { west = end; east = end }
 
 -- ---- reports that come in at the west end
--- nine frames of 900 bytes in all, so many of them marked CE; our 1000 echoed after 20 ms
-abbrev pub report : ℕ → ReceiverReport
-report ecn =
+-- nine frames of 900 bytes in all, so many of them marked CE; so much of our time echoed after 20 ms
+abbrev pub echoing : ℕ → ℕ → ReceiverReport
+echoing echo ecn =
     record {
       «highest_counter» = 9;
       «cumulative_packets_recv» = 9;
       «cumulative_bytes_recv» = 900;
-      «timestamp_echo» = 1000;
+      «timestamp_echo» = echo;
       «dwell_time» = 20;
       «max_burst_loss» = 0;
       «mean_burst_loss» = 0;
@@ -48,6 +49,9 @@ report ecn =
       «interval_packets_recv» = 0;
       «interval_bytes_recv» = 0;
     }
+
+abbrev pub report : ℕ → ReceiverReport
+report ecn = echoing 1000 ecn
 
 abbrev pub on-west-metrics : MetricsCall → Call
 on-west-metrics c = record { side = Side.west; call = on-metrics c }
@@ -63,6 +67,10 @@ reports =
     ∷ on-west-metrics MetricsCall.«reset_for_rekey»
     ∷ processing (report 0) 1030
     ∷ []
+
+-- a report without an echo, and the same again
+abbrev pub silent : List Call
+silent = processing (echoing 0 0) 1030 ∷ processing (echoing 0 0) 1030 ∷ []
 
 -- ---- frames that come in at the east end
 abbrev pub on-east-receiver : ReceiverCall → Call
@@ -91,6 +99,10 @@ framesAndReport = frames ++ on-east-receiver (ReceiverCall.«build_report» (0 �
 
 abbrev pub refusals : List Call → List ℕ
 refusals h = map (λ (n : Entry ends). n .refusal) (written begin h)
+
+-- stale, no echo, samples, zeros, failures, and reports seen
+abbrev pub counts : MmpMetrics → List ℕ
+counts m = m .«stale_reports» ∷ m .«no_echo_reports» ∷ m .«rtt_samples» ∷ m .«rtt_zero» ∷ m .«rtt_arith_fail» ∷ m .«reports_seen» ∷ []
 
 abbrev pub metrics : MmpMetrics
 metrics = reached begin reports .west .metrics
@@ -121,7 +133,13 @@ pub record Worked : Type 0 where
   -- S = 10875 µs and V = 4562.5 µs; SRTT and RTTVAR
   pub averages : averageOf (roundTrips acceptedReports) ≡ average 3 5568000 2336000
   pub smoothed : recorded (metrics .srtt) ≡ estimate 10875 4563
-  pub seen : metrics .«reports_seen» ≡ 4
+  -- the latest first; a rekey is no report
+  pub kinds : kinds acceptedReports ≡ of-sample ∷ of-sample ∷ of-stale ∷ of-sample ∷ []
+  pub counted : counts metrics ≡ 1 ∷ 0 ∷ 3 ∷ 0 ∷ 0 ∷ 4 ∷ []
+  -- "seen 2, no echo 1, stale 1"
+  pub silent-counted : counts (reached begin silent .west .metrics) ≡ 1 ∷ 1 ∷ 0 ∷ 0 ∷ 0 ∷ 2 ∷ []
+  -- every entry of it may stand in a list, so that the statement speaks of it
+  pub fit : All (fits ends) (written begin reports)
   -- the five calls with frames: 3000 µs before the rekey, 7000 µs after it
   pub frames-accepted : refusals frames ≡ 0 ∷ 0 ∷ 0 ∷ 0 ∷ 0 ∷ []
   pub before-rekey : differences (accepted begin twoFrames .east .receiver) ≡ pos 3000 ∷ []

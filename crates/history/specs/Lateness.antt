@@ -12,7 +12,7 @@ use Rattle.refusals.specs.declared.option.OptionU64.the-variants.{None, Some}
 use Rattle.wire.specs.declared.receiver_report.ReceiverReport.{ReceiverReport}
 use Rattle.receiver.specs.declared.ReceiverState.{ReceiverState}
 use Rattle.history.specs.Paper.{greatestCounter}
-use Rattle.history.specs.Run.{Entry, All}
+use Rattle.history.specs.Run.{Entry, All, fits}
 use Rattle.history.specs.Answers.{Fact, Answer}
 use Rattle.history.specs.ReceiverCalls.{ReceiverQuestion, Frame, ReceiverCall, receiverStep}
 use Rattle.history.specs.Ends.{EndNew, on-receiver, Side, Two, at, Call, ends}
@@ -102,7 +102,7 @@ pub record Kept (k : Two EndNew) (h : List Call) : Type 0 where
 
 -- for every pair of new ends and every list of calls whose arguments fit their types
 abbrev pub KeptHolds : Type 0
-KeptHolds = (k : Two EndNew) (h : List Call) → All (ends .Fits) h → Kept k h
+KeptHolds = (k : Two EndNew) (h : List Call) → All (fits ends) (written k h) → Kept k h
 
 -- ---- the same of one call, on any record, from new or not
 abbrev pub dueIn : OptionU64 → Due

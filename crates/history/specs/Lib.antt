@@ -5,8 +5,11 @@ pub mod Tellings
 pub mod SenderCalls
 pub mod ReceiverCalls
 pub mod MetricsCalls
+pub mod Meant
 pub mod ExactJitter
 pub mod ExactRoundTrip
+pub mod Kinds
+pub mod Accounted
 pub mod Recount
 pub mod Ends
 pub mod Asked

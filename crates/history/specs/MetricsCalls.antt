@@ -17,6 +17,8 @@ use Rattle.metrics.specs.Accessors.{
   rttSamplesOf,
   rttZeroOf,
   rttArithFailOf,
+  staleReportsOf,
+  noEchoReportsOf,
   lastRttMsOf,
 }
 use Rattle.metrics.specs.declared.MmpMetrics.{MmpMetrics}
@@ -33,11 +35,11 @@ abbrev pub newMetrics : MetricsNew → MmpMetrics
 newMetrics new = fresh
 newMetrics default = fresh
 
--- ---- questions: they move nothing. The count of reports seen is asked apart, since striking out changes it
+-- ---- questions: they move nothing. The counts of reports seen and of stale ones are asked apart, since striking out changes them
 pub data MetricsQuestion : Type 0 where
   «keeps_rule» : MetricsQuestion
   «srtt_ms» «loss_rate» «smoothed_loss» «quality_index» «smoothed_etx» «goodput_bps» «last_ecn_ce_count» «rr_counters» : MetricsQuestion
-  «rtt_samples» «rtt_zero» «rtt_arith_fail» «last_rtt_ms» : MetricsQuestion
+  «rtt_samples» «rtt_zero» «rtt_arith_fail» «no_echo_reports» «last_rtt_ms» : MetricsQuestion
 
 unfoldable pub metricsTold : MetricsQuestion → MmpMetrics → Told
 metricsTold «keeps_rule» m = told.rule (keepsRule m)
@@ -52,6 +54,7 @@ metricsTold «rr_counters» m = told.counters (rrCountersOf m)
 metricsTold «rtt_samples» m = told.u64 (rttSamplesOf m)
 metricsTold «rtt_zero» m = told.u64 (rttZeroOf m)
 metricsTold «rtt_arith_fail» m = told.u64 (rttArithFailOf m)
+metricsTold «no_echo_reports» m = told.u64 (noEchoReportsOf m)
 metricsTold «last_rtt_ms» m = told.optional-u32 (lastRttMsOf m)
 
 -- ---- the calls, with their arguments in the functions' order
@@ -59,7 +62,7 @@ pub data MetricsCall : Type 0 where
   «process_receiver_report» : ReceiverReport → ℕ → ℕ → MetricsCall
   «reset_for_rekey» : MetricsCall
   «update_reverse_delivery» : ℕ → ℕ → MetricsCall
-  «reports_seen» : MetricsCall
+  «reports_seen» «stale_reports» : MetricsCall
   ask : MetricsQuestion → MetricsCall
 
 -- a call that hands back a record and no more
@@ -72,4 +75,5 @@ metricsStep («process_receiver_report» rr ours now) m =
 metricsStep «reset_for_rekey» m = updating (rekeyOf m)
 metricsStep («update_reverse_delivery» packets highest) m = updating (reverseOf m packets highest)
 metricsStep «reports_seen» m = staying m (told.u64 (reportsSeenOf m))
+metricsStep «stale_reports» m = staying m (told.u64 (staleReportsOf m))
 metricsStep (ask q) m = staying m (metricsTold q m)

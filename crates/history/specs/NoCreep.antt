@@ -20,7 +20,7 @@ use Rattle.metrics.specs.State as metrics
 use Rattle.metrics.specs.declared.MmpMetrics.{MmpMetrics}
 use Rattle.history.specs.Paper.{greatestEtx, smoothedBound, variationBound, jitterBound}
 use Rattle.history.specs.Run as run
-use Rattle.history.specs.Run.{Entry, Left, All, runOf, notFull, callsLeft, asTheyWere, restored}
+use Rattle.history.specs.Run.{Entry, Left, All, runOf, fits, notFull, callsLeft, asTheyWere, restored}
 use Rattle.history.specs.Answers.{Fact, Answer}
 use Rattle.history.specs.SenderCalls.{newSender, senderStep}
 use Rattle.history.specs.ReceiverCalls.{ReceiverCall, newReceiver, receiverStep}
@@ -28,6 +28,8 @@ use Rattle.history.specs.MetricsCalls.{MetricsCall, newMetrics, metricsS
 use Rattle.history.specs.Asked.{Judged, putTo}
 use Rattle.history.specs.ExactJitter.{differences}
 use Rattle.history.specs.ExactRoundTrip as exact
+use Rattle.history.specs.Kinds.{of-stale, of-no-echo, of-sample, of-zero, of-failure, count}
+use Rattle.history.specs.Meant.{History, Reached}
 use Rattle.history.specs.Recount.{recounted}
 use Rattle.history.specs.Ends.{End, EndNew, newEnd, EndCall, on-sender, on-receiver, on-metrics, Log, noCalls, Side, Two, at, put, Call, ends}
 
@@ -47,6 +49,13 @@ reached k h = run.reachedFrom ends (begun k) h
 
 abbrev pub accepted : Two EndNew → List Call → Two Log
 accepted k h = run.acceptedFrom ends noneYet (written k h)
+
+-- the history that an end's metrics mean after the list, and the record
+abbrev pub meant : Side → Two EndNew → List Call → History
+meant s k h = at s (accepted k h) .metrics
+
+abbrev pub metricsAt : Side → Two EndNew → List Call → MmpMetrics
+metricsAt s k h = at s (reached k h) .metrics
 
 -- ---- each record is what the accepted calls on it reach by themselves
 pub record Alone (n : EndNew) (x : Log) (e : End) : Type 0 where
@@ -81,7 +90,7 @@ pub record Between (lo hi : ℕ) (x : Float) : Type 0 where
   pub low : le (ofInt binary64 (pos lo)) x ≡ true
   pub high : le x (ofInt binary64 (pos hi)) ≡ true
 
-pub record FiguresHold (l : List MetricsCall) (m : MmpMetrics) : Type 0 where
+pub record FiguresHold (l : History) (m : MmpMetrics) : Type 0 where
   -- "smoothed round trip is never below the exact RFC 6298 average and less than 7 µs above it", over 8^n, from the first round trip on
   pub smoothed : SmoothedAbove smoothedBound (averageOf (exact.roundTrips l)) (recorded (m .srtt))
   -- "its variation is less than 10 µs off"
@@ -90,7 +99,16 @@ pub record FiguresHold (l : List MetricsCall) (m : MmpMetrics) : Type 0 where
   pub forward : Between 0 1 (m .«delivery_ratio_forward»)
   pub reverse : Between 0 1 (m .«delivery_ratio_reverse»)
   pub etx : Between 1 greatestEtx (m .etx)
-  -- reports seen are the reports processed, refused ones left out
+
+-- ---- document 02, W-205: "Each of the five kinds .. equals the number of such calls, refused ones left out, in the history from new"
+pub record KindsHold (l : History) (m : MmpMetrics) : Type 0 where
+  pub stale : m .«stale_reports» ≡ count of-stale l
+  pub no-echo : m .«no_echo_reports» ≡ count of-no-echo l
+  pub samples : m .«rtt_samples» ≡ count of-sample l
+  pub zeros : m .«rtt_zero» ≡ count of-zero l
+  pub failures : m .«rtt_arith_fail» ≡ count of-failure l
+  -- "and their sum equals reports seen", which are the reports processed, stale or not
+  pub sum : m .«stale_reports» + m .«no_echo_reports» + m .«rtt_samples» + m .«rtt_zero» + m .«rtt_arith_fail» ≡ m .«reports_seen»
   pub seen : m .«reports_seen» ≡ exact.processed l
 
 -- ---- "jitter in each decoded report is less than 1 µs from the exact RFC 3550 average at its building"
@@ -140,7 +158,7 @@ entriesLeft k places h = run.leftFrom ends oneMore staleEntry places noneStruck 
 abbrev pub struckOut : Two EndNew → (ℕ → Bool) → List Call → Two ℕ
 struckOut k places h = run.struckFrom ends oneMore staleEntry places noneStruck (written k h)
 
--- "but for the count of reports seen": it is lower by what was struck out before at that end. Put back in its accessor's answer ..
+-- "now alters two counters, reports seen and stale" (document 02, W-205): both are lower by what was struck out before at that end. Put back in their accessors' answers ..
 abbrev pub raisedFact : ℕ → Fact → Fact
 raisedFact d (Fact.number n) = Fact.number (n + d)
 raisedFact d (Fact.yes-or-no b) = Fact.yes-or-no b
@@ -160,6 +178,7 @@ raisedAnswer d (Answer.outcome o) = Answer.outcome o
 
 abbrev pub restoreMetrics : ℕ → MetricsCall → Answer → Answer
 restoreMetrics d MetricsCall.«reports_seen» a = raisedAnswer d a
+restoreMetrics d MetricsCall.«stale_reports» a = raisedAnswer d a
 restoreMetrics d (MetricsCall.«process_receiver_report» rr ours now) a = a
 restoreMetrics d MetricsCall.«reset_for_rekey» a = a
 restoreMetrics d (MetricsCall.«update_reverse_delivery» packets highest) a = a
@@ -170,19 +189,21 @@ restoreEnd d (on-sender c) a = a
 restoreEnd d (on-receiver c) a = a
 restoreEnd d (on-metrics c) a = restoreMetrics d c a
 
-abbrev pub restore : Two ℕ → Call → Answer → Answer
-restore t c a = restoreEnd (at (c .side) t) (c .call) a
+abbrev pub restore : Two ℕ → Call → ℕ → Answer → Answer
+restore t c refusal a = restoreEnd (at (c .side) t) (c .call) a
 
 -- .. and in a record
 abbrev pub restoreRecords : ℕ → End → End
-restoreRecords d e = record { sender = e .sender; receiver = e .receiver; metrics = recounted (e .metrics) (e .metrics .«reports_seen» + d) }
+restoreRecords d e = record { sender = e .sender; receiver = e .receiver; metrics = recounted (e .metrics) (e .metrics .«reports_seen» + d) (e .metrics .«stale_reports» + d) }
 
 -- ---- the whole
 pub record NoCreep (k : Two EndNew) (h : List Call) : Type 0 where
   -- after the list, at either end
   pub alone : (s : Side) → Alone (at s k) (at s (accepted k h)) (at s (reached k h))
   pub rules : (s : Side) → Rules (at s (reached k h))
-  pub figures : (s : Side) → FiguresHold (at s (accepted k h) .metrics) (at s (reached k h) .metrics)
+  pub reaches : (s : Side) → Reached (meant s k h) (metricsAt s k h)
+  pub figures : (s : Side) → FiguresHold (meant s k h) (metricsAt s k h)
+  pub kinds : (s : Side) → KindsHold (meant s k h) (metricsAt s k h)
   -- every call
   pub not-by-rule : All NotByRule (written k h)
   pub as-asked : All (AsAsked k) (written k h)
@@ -199,7 +220,12 @@ pub record NoCreep (k : Two EndNew) (h : List Call) : Type 0 where
       All (notFull ends) (written k h) →
       (s : Side) →
       restoreRecords (at s (struckOut k places h)) (at s (reached k (callsLeft ends (entriesLeft k places h)))) ≡ at s (reached k h)
+  -- what is left is such a list again, so that all of this holds of it too
+  pub still-fits :
+      (places : ℕ → Bool) →
+      All (notFull ends) (written k h) →
+      All (fits ends) (written k (callsLeft ends (entriesLeft k places h)))
 
 -- for every pair of new ends and every list of calls whose arguments fit their types
 abbrev pub NoCreepHolds : Type 0
-NoCreepHolds = (k : Two EndNew) (h : List Call) → All (ends .Fits) h → NoCreep k h
+NoCreepHolds = (k : Two EndNew) (h : List Call) → All (fits ends) (written k h) → NoCreep k h

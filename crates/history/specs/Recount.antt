@@ -1,9 +1,9 @@
--- A metrics record with another count of reports seen: every other field as it is. Definitions only.
+-- A metrics record with other counts of reports seen and of stale ones: every other field as it is. Definitions only.
 use Prim.Native.Nat.{ℕ}
 use Rattle.metrics.specs.declared.MmpMetrics.{MmpMetrics}
 
-abbrev pub recounted : MmpMetrics → ℕ → MmpMetrics
-recounted m seen =
+abbrev pub recounted : MmpMetrics → ℕ → ℕ → MmpMetrics
+recounted m seen stale =
     record {
       srtt = m .srtt;
       «rtt_trend» = m .«rtt_trend»;
@@ -30,4 +30,6 @@ recounted m seen =
       «rtt_zero» = m .«rtt_zero»;
       «rtt_arith_fail» = m .«rtt_arith_fail»;
       «last_rtt_ms» = m .«last_rtt_ms»;
+      «stale_reports» = stale;
+      «no_echo_reports» = m .«no_echo_reports»;
     }

@@ -37,6 +37,8 @@ pub record Stays (m n : MmpMetrics) : Type 0 where
   pub zeros : n .«rtt_zero» ≡ m .«rtt_zero»
   pub failures : n .«rtt_arith_fail» ≡ m .«rtt_arith_fail»
   pub last : n .«last_rtt_ms» ≡ m .«last_rtt_ms»
+  pub stale : n .«stale_reports» ≡ m .«stale_reports»
+  pub no-echo : n .«no_echo_reports» ≡ m .«no_echo_reports»
 
 pub record Rekeyed (m n : MmpMetrics) : Type 0 where
   pub cleared : Cleared n

@@ -23,8 +23,8 @@ pub record Machine : Type 1 where
   pub Log : Type 0
   pub Call : Type 0
   pub Answer : Type 0
-  -- each argument fits its type
-  pub Fits : Call → Type 0
+  -- a call with its refusal number, after the calls noted, may stand in a list
+  pub Fits : Call → ℕ → Log → Type 0
   pub step : Call → World → Step Answer World
   pub note : Call → Log → Log
 
@@ -64,6 +64,10 @@ module _ (𝓜 : Machine) where
   acceptedFrom x [] = x
   acceptedFrom x (n ∷ ns) = acceptedFrom (noted (n .call) (n .refusal) x) ns
 
+  -- the entry may stand in a list
+  abbrev pub fits : Entry 𝓜 → Type 0
+  fits n = 𝓜 .Fits (n .call) (n .refusal) (n .before)
+
   -- the call did not meet 10
   abbrev pub notFull : Entry 𝓜 → Type 0
   notFull n = n .refusal ≢ 10
@@ -102,7 +106,7 @@ module _ (𝓜 : Machine) {Struck : Type 0} where
   asTheyWere ls = map (λ (l : Left 𝓜 Struck). record { call = l .entry .call; refusal = l .entry .refusal; answer = l .entry .answer }) ls
 
   -- what they answer without the others, each answer with what was struck out before it put back by `restore`
-  unfoldable pub restored : (Struck → 𝓜 .Call → 𝓜 .Answer → 𝓜 .Answer) → List (Left 𝓜 Struck) → List (Entry 𝓜) → List (Shown 𝓜)
+  unfoldable pub restored : (Struck → 𝓜 .Call → ℕ → 𝓜 .Answer → 𝓜 .Answer) → List (Left 𝓜 Struck) → List (Entry 𝓜) → List (Shown 𝓜)
   restored restore [] ns = []
   restored restore (l ∷ ls) [] = []
-  restored restore (l ∷ ls) (n ∷ ns) = record { call = n .call; refusal = n .refusal; answer = restore (l .struck) (n .call) (n .answer) } ∷ restored restore ls ns
+  restored restore (l ∷ ls) (n ∷ ns) = record { call = n .call; refusal = n .refusal; answer = restore (l .struck) (n .call) (n .refusal) (n .answer) } ∷ restored restore ls ns
