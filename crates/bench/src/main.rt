@@ -110,14 +110,20 @@ fn run_received(
     turn.sum
 }
 
-fn run_processed(call: u64, count: u64, numbers: &mut [u64], floats: &mut [f64]) -> u64 {
+fn run_processed(
+    call: u64,
+    count: u64,
+    numbers: &mut [u64],
+    floats: &mut [f64],
+    tallies: &mut [u64],
+) -> u64 {
     let mut turn = Progress {
         random: START,
         sum: 0,
     };
     let mut left = count;
     while left > 0 {
-        turn = processed::turn(call, turn, numbers, floats);
+        turn = processed::turn(call, turn, numbers, floats, tallies);
         left -= 1;
     }
     turn.sum
@@ -171,7 +177,8 @@ fn received_sum(call: u64, count: u64) -> u64 {
 fn processed_sum(call: u64, count: u64) -> u64 {
     let mut numbers = [0u64; 64];
     let mut floats = [0.0f64; 64];
-    run_processed(call, count, &mut numbers, &mut floats)
+    let mut tallies = [0u64; 64];
+    run_processed(call, count, &mut numbers, &mut floats, &mut tallies)
 }
 
 // A call's number less its thousands says whose loop it is in, but for the decoders that do not know the length.

@@ -37,8 +37,33 @@ fn ewma_of(f: &[f64], from: usize, k: usize, initialized: bool) -> DualEwma {
     }
 }
 
+// Where one of eight rows of tallies begins.
+fn row(x: u64) -> usize {
+    picked(x, 8) << 3
+}
+
+// A row that keeps the rule: the reports seen, and the five kinds that they are the sum of, each below 2^35. A call reads a row that the
+// random number picks anew, so nothing is known of the six where it is compiled.
+fn store_tallies(t: &mut [u64], from: usize, x: u64) {
+    let stale = x >> 29;
+    let no_echo = x >> 30;
+    let samples = x >> 31;
+    let zeros = x >> 32;
+    let failures = x >> 33;
+    let others = std::num::wrapping_add_u64(stale, no_echo);
+    let invalid = std::num::wrapping_add_u64(zeros, failures);
+    let echoes = std::num::wrapping_add_u64(samples, invalid);
+    let seen = std::num::wrapping_add_u64(others, echoes);
+    store_number(t, from, seen);
+    store_number(t, std::num::wrapping_add_usize(from, 1), stale);
+    store_number(t, std::num::wrapping_add_usize(from, 2), no_echo);
+    store_number(t, std::num::wrapping_add_usize(from, 3), samples);
+    store_number(t, std::num::wrapping_add_usize(from, 4), zeros);
+    store_number(t, std::num::wrapping_add_usize(from, 5), failures);
+}
+
 // The floats of the table are from 0 up to 1.
-fn state_of(s: &[u64], f: &[f64], from: usize) -> MmpMetrics {
+fn state_of(s: &[u64], f: &[f64], from: usize, t: &[u64], row: usize) -> MmpMetrics {
     let srtt = SrttEstimator {
         srtt_us: signed(at(s, from, 0)),
         rttvar_us: signed(at(s, from, 1)),
@@ -72,11 +97,13 @@ fn state_of(s: &[u64], f: &[f64], from: usize) -> MmpMetrics {
         prev_reverse_packets: at(s, from, 18),
         prev_reverse_highest: at(s, from, 19),
         has_prev_reverse: is_set(s, from, 20),
-        reports_seen: at(s, from, 21) | 1099511627776,
-        rtt_samples: at(s, from, 22),
-        rtt_zero: at(s, from, 23),
-        rtt_arith_fail: at(s, from, 24),
+        reports_seen: at(t, row, 0),
+        rtt_samples: at(t, row, 3),
+        rtt_zero: at(t, row, 4),
+        rtt_arith_fail: at(t, row, 5),
         last_rtt_ms,
+        stale_reports: at(t, row, 1),
+        no_echo_reports: at(t, row, 2),
     }
 }
 
@@ -131,8 +158,9 @@ fn state_sum(m: MmpMetrics) -> u64 {
     let kept = m.prev_rr_cum_packets ^ m.prev_rr_cum_bytes ^ m.prev_rr_highest_counter ^ words;
     let reverse = m.prev_reverse_packets ^ m.prev_reverse_highest;
     let counts = m.reports_seen ^ m.rtt_samples ^ m.rtt_zero ^ m.rtt_arith_fail;
+    let others = m.stale_reports ^ m.no_echo_reports;
     let flags = flag(begun(m)) ^ flag(total(m) < 8.0);
-    round_trip ^ kept ^ reverse ^ counts ^ times_sum(m) ^ flags
+    round_trip ^ kept ^ reverse ^ counts ^ others ^ times_sum(m) ^ flags
 }
 
 fn log_sum(log: RrLog) -> u64 {
@@ -161,9 +189,9 @@ fn process(state: MmpMetrics, rr: ReceiverReport, echo: u64, now_ms: u64) -> u64
     state_sum(after) ^ outcome_sum(outcome) ^ p.refusal as u64
 }
 
-fn called(call: u64, x: u64, s: &[u64], f: &[f64]) -> u64 {
+fn called(call: u64, x: u64, s: &[u64], f: &[f64], t: &[u64]) -> u64 {
     let from = place(x);
-    let state = state_of(s, f, from);
+    let state = state_of(s, f, from, t, row(x >> 20));
     let rr = report_of(s, from, x, call == 1603);
     let given = receiver_sum(rr);
     let now_ms = at(s, from, 31);
@@ -173,7 +201,13 @@ fn called(call: u64, x: u64, s: &[u64], f: &[f64]) -> u64 {
     }
 }
 
-pub fn turn(call: u64, t: Progress, numbers: &mut [u64], floats: &mut [f64]) -> Progress {
+pub fn turn(
+    call: u64,
+    t: Progress,
+    numbers: &mut [u64],
+    floats: &mut [f64],
+    tallies: &mut [u64],
+) -> Progress {
     let x = next(t.random);
     let slot = picked(x, 64);
     store_number(numbers, slot, x >> 29);
@@ -182,7 +216,8 @@ pub fn turn(call: u64, t: Progress, numbers: &mut [u64], floats: &mut [f64]) -> 
         slot,
         u32_of(x) as f64 * 0.00000000023283064365386962890625,
     );
-    let part = called(call, x, numbers, floats);
+    store_tallies(tallies, row(x >> 16), x);
+    let part = called(call, x, numbers, floats, tallies);
     Progress {
         random: x,
         sum: std::num::wrapping_add_u64(t.sum, part),

@@ -6,14 +6,14 @@ use Rattle.bench.proofs.run_processed.Statement.{statement}
 use Rattle.bench.proofs.run_processed.Tie as tie
 
 abbrev Inv-loop : tie.InvT-loop
-Inv-loop call count numbers₀ floats₀ turn₀ left₀ numbers floats turn left = (length numbers ≡ length numbers₀) × (length floats ≡ length floats₀)
+Inv-loop call count numbers₀ floats₀ tallies₀ turn₀ left₀ numbers floats tallies turn left = (length numbers ≡ length numbers₀) × (length floats ≡ length floats₀) × (length tallies ≡ length tallies₀)
 
 abbrev μ-loop : tie.MeasureT-loop
-μ-loop call count numbers₀ floats₀ turn₀ left₀ numbers floats turn left = left
+μ-loop call count numbers₀ floats₀ tallies₀ turn₀ left₀ numbers floats tallies turn left = left
 
 pub run-processed-spec : {M : Type 1} → statement M
 run-processed-spec =
     tie.close
     (tie.spec Inv-loop μ-loop
     (λ c. search needs) (λ c κs. search needs) (λ c. search needs) (λ c. search needs) (λ c. search needs)
-    (λ c. search needs) (λ c. search needs) (λ c. search needs))
+    (λ c. search needs) (λ c. search needs) (λ c. search needs) (λ c. search needs))

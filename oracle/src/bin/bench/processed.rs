@@ -10,7 +10,19 @@ use oracle::proto::mmp::wire::ReceiverReport;
 /// From 0 up to 1.
 type Floats = [f64; 64];
 
-fn state_of(s: &Numbers, f: &Floats, from: usize) -> MmpMetrics {
+/// Where one of eight rows of tallies begins.
+fn row(x: u64) -> usize {
+    ((x % 8) << 3) as usize
+}
+
+/// A row that keeps the port's rule: the reports seen, and the five kinds that they are the sum of, each below 2^35.
+fn store_tallies(t: &mut Numbers, from: usize, x: u64) {
+    let kinds = [x >> 29, x >> 30, x >> 31, x >> 32, x >> 33];
+    t[from] = kinds.iter().sum();
+    t[from + 1..from + 6].copy_from_slice(&kinds);
+}
+
+fn state_of(s: &Numbers, f: &Floats, from: usize, t: &Numbers, row: usize) -> MmpMetrics {
     let at = |k: usize| s[from + k];
     let trend = |k: usize, n: u64| ewma::State {
         short: f[from + k],
@@ -42,10 +54,10 @@ fn state_of(s: &Numbers, f: &Floats, from: usize) -> MmpMetrics {
         prev_reverse_packets: at(18),
         prev_reverse_highest: at(19),
         has_prev_reverse: is_set(at(20)),
-        reports_seen: at(21) | 1 << 40,
-        rtt_samples: at(22),
-        rtt_zero: at(23),
-        rtt_arith_fail: at(24),
+        reports_seen: t[row],
+        rtt_samples: t[row + 3],
+        rtt_zero: t[row + 4],
+        rtt_arith_fail: t[row + 5],
         last_rtt_ms: is_set(at(10)).then_some(at(11) as u32),
     })
 }
@@ -111,10 +123,21 @@ fn log_sum(log: &RrLog) -> u64 {
     }
 }
 
+/// The commit counts no stale report and none without an echo: the port's two counts are raised here.
+fn others_sum(stale: u64, no_echo: u64, log: &RrLog) -> u64 {
+    match log {
+        RrLog::None => stale ^ no_echo.wrapping_add(1),
+        RrLog::Stale { .. } => stale.wrapping_add(1) ^ no_echo,
+        _ => stale ^ no_echo,
+    }
+}
+
 /// Our time is after the echo and the dwell.
-fn called(call: u64, x: u64, s: &Numbers, f: &Floats) -> u64 {
+fn called(call: u64, x: u64, s: &Numbers, f: &Floats, t: &Numbers) -> u64 {
     let from = place(x);
-    let mut state = state_of(s, f, from);
+    let row = row(x >> 20);
+    let mut state = state_of(s, f, from, t, row);
+    let (stale, no_echo) = (t[row + 1], t[row + 2]);
     let rr = report_of(s, from, x, call == 1603);
     let given = receiver_sum(&rr);
     let now_ms = s[from + 31];
@@ -122,9 +145,9 @@ fn called(call: u64, x: u64, s: &Numbers, f: &Floats) -> u64 {
         603 | 1603 => {
             let ours = (s[from + 28] >> 8 | 1 << 28) as u32;
             let (first_srtt, log) = state.process_receiver_report(&rr, ours, now_ms);
-            given ^ state_sum(&state) ^ log_sum(&log) ^ u64::from(first_srtt)
+            given ^ state_sum(&state) ^ others_sum(stale, no_echo, &log) ^ log_sum(&log) ^ u64::from(first_srtt)
         }
-        _ => given ^ state_sum(&state) ^ now_ms,
+        _ => given ^ state_sum(&state) ^ stale ^ no_echo ^ now_ms,
     }
 }
 
@@ -132,6 +155,7 @@ fn called(call: u64, x: u64, s: &Numbers, f: &Floats) -> u64 {
 pub fn sum(call: u64, count: u64) -> u64 {
     let mut numbers = [0; 64];
     let mut floats = [0.0; 64];
+    let mut tallies = [0; 64];
     let mut x = START;
     let mut sum = 0u64;
     for _ in 0..count {
@@ -139,7 +163,8 @@ pub fn sum(call: u64, count: u64) -> u64 {
         let slot = (x % 64) as usize;
         numbers[slot] = x >> 29;
         floats[slot] = f64::from(x as u32) * 0.000_000_000_232_830_643_653_869_628_906_25;
-        sum = sum.wrapping_add(called(call, x, &numbers, &floats));
+        store_tallies(&mut tallies, row(x >> 16), x);
+        sum = sum.wrapping_add(called(call, x, &numbers, &floats, &tallies));
     }
     sum
 }
