@@ -20,4 +20,5 @@ pub mod samples;
 pub mod sender;
 pub mod spin;
 pub mod srtt;
+pub mod tallies;
 pub mod wire;

@@ -12,6 +12,7 @@ use crate::histories::whole::Whole;
 use crate::proto::mmp::wire::ReceiverReport;
 use crate::records::ends::{Call, End, History};
 use crate::records::metrics_call;
+use crate::records::report_kind::Kind;
 use crate::script::case::{Answer, Case};
 use crate::script::rng::Rng;
 
@@ -101,7 +102,6 @@ fn follow(history: &History, worst: &mut Worst) -> (Vec<Entry>, [End; 2]) {
     let mut ends = history.begun.clone();
     let mut reports = [Reports::default(), Reports::default()];
     let mut frames = [Frames::default(), Frames::default()];
-    let mut processed = [0; 2];
     let mut entries = vec![];
     for (side, call) in &history.calls {
         let case = ends[*side].call(call);
@@ -109,13 +109,12 @@ fn follow(history: &History, worst: &mut Worst) -> (Vec<Entry>, [End; 2]) {
         assert!(made.refusal != 1, "a call was refused by the rule");
         match call {
             Call::Metrics(call) if made.refusal == 0 => {
-                processed[*side] += u64::from(matches!(call, metrics_call::Call::Process { .. }));
-                assert!(
-                    ends[*side].metrics.fields.reports_seen == processed[*side],
-                    "reports seen are not those processed"
-                );
-                made.stale = reports[*side].stale(call);
+                made.stale = reports[*side].kind(call) == Some(Kind::Stale);
                 reports[*side].hear(call);
+                assert!(
+                    ends[*side].metrics.tallies() == reports[*side].tallies,
+                    "reports seen, or those of a kind, are not those processed"
+                );
                 worst.round_trip(&ends[*side], &reports[*side]);
             }
             Call::Receiver(call) if made.refusal == 0 => {
@@ -131,11 +130,12 @@ fn follow(history: &History, worst: &mut Worst) -> (Vec<Entry>, [End; 2]) {
     (entries, ends)
 }
 
-/// The records, with so many reports more seen at each end.
+/// The records, with so many stale reports more at each end.
 fn records(ends: &[End; 2], more: [u64; 2]) -> Vec<Vec<u64>> {
     let of = |(end, more): (&End, u64)| {
         let mut metrics = end.metrics;
         metrics.fields.reports_seen += more;
+        metrics.stale += more;
         let receiver = [end.receiver.numbers(), end.receiver.ring.windows()].concat();
         vec![end.sender.numbers().to_vec(), receiver, metrics.numbers()]
     };
@@ -149,8 +149,8 @@ struct Struck {
     answers: usize,
 }
 
-/// Takes one, some or all of the stale calls out: every other answer and the records stay, the count of reports seen lower by what was struck out before at
-/// that end.
+/// Takes one, some or all of the stale calls out: every other answer and the records stay, the counts of reports seen and of stale ones lower by what was
+/// struck out before at that end.
 fn strike(rng: &mut Rng, history: &History, entries: &[Entry], ends: &[End; 2], struck: &mut Struck) {
     let stale: Vec<usize> = (0..entries.len()).filter(|i| entries[*i].stale).collect();
     if stale.is_empty() || entries.iter().any(|entry| entry.refusal == 10) {
@@ -184,7 +184,7 @@ fn strike(rng: &mut Rng, history: &History, entries: &[Entry], ends: &[End; 2], 
     };
     for (entry, i) in again.iter_mut().zip(&left) {
         let (side, call) = &history.calls[*i];
-        if matches!(call, Call::Metrics(metrics_call::Call::Seen)) {
+        if matches!(call, Call::Metrics(metrics_call::Call::Seen | metrics_call::Call::Stale)) {
             entry.answer[1] += out_before(*i)[*side];
         }
         assert!(entry.answer == entries[*i].answer, "an answer moved with a stale report");

@@ -6,4 +6,5 @@ pub mod metrics_state;
 pub mod owd_ring;
 pub mod receiver_call;
 pub mod receiver_state;
+pub mod report_kind;
 pub mod sender_state;

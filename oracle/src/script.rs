@@ -44,7 +44,7 @@ fn random_case(rng: &mut Rng, call: u64) -> Case {
         451..=459 | 471..=473 => gaps::random_case(rng, call),
         461..=467 => samples::random_case(rng, call),
         501..=519 => receiver::random_case(rng, call),
-        601..=619 => metrics::random_case(rng, call),
+        601..=621 => metrics::random_case(rng, call),
         _ => figures::random_case(rng, call),
     }
 }

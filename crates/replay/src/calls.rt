@@ -56,7 +56,7 @@ fn reply_of(given: &[u64]) -> Reply {
         451..=459 | 471..=473 => gap_calls::answer(given),
         461..=465 => sample_calls::answer(given),
         501..=519 => receiver_calls::answer(given),
-        601..=619 => metrics_calls::answer(given),
+        601..=621 => metrics_calls::answer(given),
         _ => figure_calls::answer(given),
     }
 }

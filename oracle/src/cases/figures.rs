@@ -1,5 +1,6 @@
 //! Calls 631 to 637: the figures that a report moves, each from a few numbers, by what they leave in the commit's record.
 
+use crate::cases::tallies;
 use crate::cases::wire::{fields, receiver, receiver_fields, RECEIVER};
 use crate::proto::mmp::metrics::oracle_access::{fields as taken_apart, state, Fields};
 use crate::proto::mmp::metrics::{MmpMetrics, RrLog};
@@ -53,10 +54,10 @@ fn smoothed_ms(srtt_us: i64, initialized: bool) -> Case {
     Case::new(line, (Numbers::of(&[bits(ms)]), false))
 }
 
-fn tallies_ok(tallies: [u64; 4]) -> Case {
-    let mut f = new();
-    [f.reports_seen, f.rtt_samples, f.rtt_zero, f.rtt_arith_fail] = tallies;
-    let answer = Numbers::of(&[Metrics { fields: f }.keeps().into()]);
+fn tallies_ok(tallies: [u64; 6]) -> Case {
+    let mut m = Metrics::of(&MmpMetrics::new());
+    m.set_tallies(tallies);
+    let answer = Numbers::of(&[m.keeps().into()]);
     Case::new(Numbers::of(&[634]).and(&tallies), (answer, true))
 }
 
@@ -104,11 +105,12 @@ pub fn boundary_cases(rng: &mut Rng) -> Vec<Case> {
         for m in boundaries(8).into_iter().step_by(6) {
             cases.push(delivery_ratio(n, m));
         }
-        cases.push(tallies_ok([n, n, 0, 0]));
-        cases.push(tallies_ok([n, n.saturating_sub(1), 1, 0]));
-        cases.push(tallies_ok([n, 1, 1, n]));
+        cases.push(tallies_ok([n, n, 0, 0, 0, 0]));
+        cases.push(tallies_ok([n, 0, 0, n.saturating_sub(1), 1, 0]));
+        cases.push(tallies_ok([n, 0, 1, 1, 1, n]));
         cases.push(smoothed_ms(n as i64, n % 2 == 0));
     }
+    cases.extend(tallies::edges().into_iter().map(tallies_ok));
     about_counters(&mut cases);
     about_rounding(&mut cases);
     for (echo, dwell) in [
@@ -187,9 +189,11 @@ pub fn random_case(rng: &mut Rng, call: u64) -> Case {
         }
         633 => smoothed_ms(near(rng, MAX_US), rng.below(2) == 0),
         634 => {
-            let seen = rng.number(8);
-            let part = rng.draw() % seen.max(1);
-            tallies_ok([seen, part, rng.below(2) as u64, beside(rng, seen - part.min(seen))])
+            let mut all = tallies::lawful(rng);
+            if rng.below(2) == 0 {
+                tallies::spoil(rng, &mut all);
+            }
+            tallies_ok(all)
         }
         635 => {
             let span = whole(rng);

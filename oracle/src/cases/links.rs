@@ -3,6 +3,7 @@
 use crate::cases::metrics::our_time;
 use crate::cases::owd::ring_of;
 use crate::cases::sender::due;
+use crate::cases::tallies;
 use crate::cases::wire::{decode_receiver, encode_receiver, receiver, receiver_fields};
 use crate::proto::mmp::metrics::MmpMetrics;
 use crate::proto::mmp::receiver::oracle_access::window;
@@ -210,7 +211,7 @@ impl Peer {
                 let highest = self.end.receiver.fields.highest_counter;
                 self.measure(metrics_call::Call::Reverse { packets, highest }, told);
             }
-            _ => self.measure(metrics_call::PLAIN[rng.below(14)].clone(), told),
+            _ => self.measure(metrics_call::PLAIN[rng.below(metrics_call::PLAIN.len())].clone(), told),
         }
     }
 }
@@ -274,7 +275,8 @@ pub fn lived(rng: &mut Rng, begun: [End; 2]) -> (History, Vec<Case>) {
 pub fn history(rng: &mut Rng) -> Vec<Case> {
     let mut begun = [new_end(rng), new_end(rng)];
     if rng.below(20) == 0 {
-        begun[0].metrics.fields.reports_seen = u64::MAX - rng.below(8) as u64;
+        let seen = u64::MAX - rng.below(8) as u64;
+        begun[0].metrics.set_tallies(tallies::split(rng, seen));
     }
     lived(rng, begun).1
 }

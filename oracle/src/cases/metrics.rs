@@ -1,5 +1,6 @@
-//! Calls 601 to 619 on any state that keeps the rule, or just not.
+//! Calls 601 to 621 on any state that keeps the rule, or just not.
 
+use crate::cases::tallies::{self, count};
 use crate::cases::wire::{fields, receiver, RECEIVER};
 use crate::cases::{ewma, srtt};
 use crate::proto::mmp::metrics::oracle_access::Fields;
@@ -48,38 +49,9 @@ fn any_trend(rng: &mut Rng, usual: f64) -> ewma::State {
     }
 }
 
-/// A count: any, or about the greatest.
-fn count(rng: &mut Rng) -> u64 {
-    match rng.below(5) {
-        0 => u64::MAX - rng.below(3) as u64,
-        1 | 2 => rng.below(5000) as u64,
-        _ => rng.number(8),
-    }
-}
-
-/// Reports seen, and three counts that are together as many, one less, or fewer.
-fn tallies(rng: &mut Rng) -> [u64; 4] {
-    let seen = count(rng);
-    let all = match rng.below(3) {
-        0 => seen,
-        1 => seen.saturating_sub(1),
-        _ => rng.number(8).min(seen),
-    };
-    let samples = match rng.below(3) {
-        0 => all,
-        _ => rng.draw().min(all),
-    };
-    let zeros = match rng.below(3) {
-        0 => 0,
-        1 => all - samples,
-        _ => rng.number(8).min(all - samples),
-    };
-    [seen, samples, zeros, all - samples - zeros]
-}
-
 /// A lawful state.
 fn any_metrics(rng: &mut Rng) -> Metrics {
-    let [reports_seen, rtt_samples, rtt_zero, rtt_arith_fail] = tallies(rng);
+    let [reports_seen, stale, no_echo, rtt_samples, rtt_zero, rtt_arith_fail] = tallies::lawful(rng);
     let fields = Fields {
         srtt: srtt::State {
             srtt_us: near(rng, MAX_US).clamp(0, MAX_US),
@@ -115,7 +87,7 @@ fn any_metrics(rng: &mut Rng) -> Metrics {
         rtt_arith_fail,
         last_rtt_ms: maybe(rng, |rng| rng.number(4) as u32),
     };
-    Metrics { fields }
+    Metrics { fields, stale, no_echo }
 }
 
 /// Breaks one clause of the rule, or not quite.
@@ -141,9 +113,11 @@ fn spoil(rng: &mut Rng, m: &mut Metrics) {
             }
         }
         6 => f.goodput_bps = goodput,
-        7 => f.rtt_samples = f.rtt_samples.saturating_add(1),
-        8 => f.rtt_zero = count(rng),
-        9 => f.rtt_arith_fail = u64::MAX - rng.below(3) as u64,
+        7..=9 => {
+            let mut tallies = m.tallies();
+            tallies::spoil(rng, &mut tallies);
+            m.set_tallies(tallies);
+        }
         10 => m.trend_mut(trend).short = sample,
         _ => m.trend_mut(trend).long = sample,
     }
@@ -160,10 +134,13 @@ fn on_from(rng: &mut Rng, before: u64) -> u64 {
     }
 }
 
-/// A report: mostly past the one that is kept, or equal in all five counters, or one of them fell.
+/// A report: mostly past the one that is kept, or equal in all five counters, or one of them fell; some without an echo.
 pub fn any_report(rng: &mut Rng, m: &Metrics) -> ReceiverReport {
     let f = &m.fields;
     let mut report = receiver(&fields(rng, &RECEIVER));
+    if rng.below(8) == 0 {
+        report.timestamp_echo = 0;
+    }
     if rng.below(10) == 0 {
         return report;
     }

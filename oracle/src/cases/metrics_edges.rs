@@ -1,11 +1,12 @@
-//! Calls 601 to 619 at the boundaries: every clause of the rule and every question, from both sides.
+//! Calls 601 to 621 at the boundaries: every clause of the rule and every question, from both sides.
 
-use crate::cases::ewma;
 use crate::cases::wire::receiver;
+use crate::cases::{ewma, tallies};
 use crate::proto::mmp::metrics::MmpMetrics;
 use crate::proto::mmp::wire::ReceiverReport;
 use crate::records::metrics_call::{Call, PLAIN};
 use crate::records::metrics_state::{Metrics, MAX_ETX, MAX_GOODPUT};
+use crate::records::report_kind::Kind;
 use crate::script::bounds::{about, floats_about, CLOCKS, MAX_MS, MAX_TREND, MAX_US};
 use crate::script::case::{Case, Numbers};
 
@@ -14,7 +15,7 @@ fn new(call: u64) -> Case {
     Case::new(Numbers::of(&[call]), (Numbers::of(&Metrics::of(&s).numbers()), false))
 }
 
-/// A link that has had some reports.
+/// A link that has had some reports, of each kind another number.
 fn plain() -> Metrics {
     let mut m = Metrics::of(&MmpMetrics::new());
     let trend = |short, long| ewma::State {
@@ -33,8 +34,8 @@ fn plain() -> Metrics {
     (f.prev_rr_ecn_ce, f.prev_rr_reorder) = (3, 2);
     (f.prev_rr_ms, f.has_prev_rr) = (Some(5000), true);
     (f.prev_reverse_packets, f.prev_reverse_highest, f.has_prev_reverse) = (90, 95, true);
-    (f.reports_seen, f.rtt_samples, f.rtt_zero, f.rtt_arith_fail) = (9, 4, 1, 2);
     f.last_rtt_ms = Some(40);
+    m.set_tallies([15, 3, 5, 4, 1, 2]);
     m
 }
 
@@ -49,6 +50,24 @@ fn process(report: ReceiverReport, our_timestamp_ms: u32, now_ms: u64) -> Call {
         our_timestamp_ms,
         now_ms,
     }
+}
+
+const KINDS: [Kind; 5] = [Kind::Stale, Kind::NoEcho, Kind::Sample, Kind::Zero, Kind::Failure];
+
+/// A report of each kind on the plain state, with our time.
+fn of_kind(kind: Kind) -> (ReceiverReport, u32) {
+    let mut report = report();
+    match kind {
+        Kind::Stale => report.highest_counter = 0,
+        Kind::NoEcho => report.timestamp_echo = 0,
+        _ => {}
+    }
+    let ours = match kind {
+        Kind::Zero => 1020,
+        Kind::Failure => 1019,
+        _ => 1060,
+    };
+    (report, ours)
 }
 
 /// The calls that move the state, the rule, and one of the others in turn.
@@ -91,25 +110,8 @@ fn edges() -> Vec<Metrics> {
     for x in floats_about(MAX_GOODPUT) {
         with(&|m| m.fields.goodput_bps = x);
     }
-    for [seen, samples, zeros, failures] in [
-        [7, 4, 1, 2],
-        [6, 4, 1, 2],
-        [0, 0, 0, 0],
-        [0, 1, 0, 0],
-        [0, 0, 1, 0],
-        [0, 0, 0, 1],
-        [9, u64::MAX, 1, 9],
-        [9, 1, u64::MAX, 1],
-        [9, 9, 1, u64::MAX],
-        [u64::MAX - 1, u64::MAX - 1, 0, 0],
-        [u64::MAX, u64::MAX - 1, 1, 0],
-        [u64::MAX, u64::MAX, 1, 0],
-        [u64::MAX, 0, 0, 0],
-    ] {
-        with(&|m| {
-            let f = &mut m.fields;
-            (f.reports_seen, f.rtt_samples, f.rtt_zero, f.rtt_arith_fail) = (seen, samples, zeros, failures);
-        });
+    for tallies in tallies::edges() {
+        with(&|m| m.set_tallies(tallies));
     }
     with(&|m| m.fields.prev_rr_ms = None);
     with(&|m| m.fields.has_prev_rr = false);
@@ -130,13 +132,15 @@ pub fn boundary_cases() -> Vec<Case> {
     about_round_trips(&mut cases);
     about_deltas(&mut cases);
     about_order(&mut cases);
+    about_kinds(&mut cases);
     cases
 }
 
 /// Every accessor of a new state, of one in the middle, and of one that breaks the rule.
 fn about_accessors(cases: &mut Vec<Case>) {
-    let mut states = vec![Metrics::of(&MmpMetrics::new()), plain(), plain()];
+    let mut states = vec![Metrics::of(&MmpMetrics::new()), plain(), plain(), plain()];
     states[2].fields.goodput_bps = -1.0;
+    states[3].set_tallies([1, 0, 0, 0, 0, 0]);
     for srtt_us in [-1, (1 << 53) + 1, i64::MAX, i64::MIN] {
         let mut m = plain();
         m.fields.srtt.srtt_us = srtt_us;
@@ -233,21 +237,82 @@ fn about_deltas(cases: &mut Vec<Case>) {
     }
 }
 
-/// Every set of questions answered no: the first of them refuses.
+/// Every set of questions answered no: the first of them refuses. The rule is broken by a float, or by the kinds that do not add up.
 fn about_order(cases: &mut Vec<Case>) {
-    for no in 0..8 {
+    for no in 0..16 {
         let asks = |bit: u32| no & (1 << bit) > 0;
         let mut m = plain();
         if asks(0) {
             m.fields.etx = f64::NAN;
         }
         if asks(2) {
-            m.fields.reports_seen = u64::MAX;
+            m.set_tallies([u64::MAX, 3, 5, 4, 1, u64::MAX - 13]);
+        }
+        if asks(3) {
+            m.no_echo -= 1;
         }
         let now_ms = if asks(1) { MAX_MS + 1 } else { 7000 };
-        let mut stale = report();
-        stale.highest_counter = 0;
-        cases.push(m.call(&process(report(), 1060, now_ms)).0);
-        cases.push(m.call(&process(stale, 1060, now_ms)).0);
+        for kind in KINDS {
+            let (report, ours) = of_kind(kind);
+            cases.push(m.call(&process(report, ours, now_ms)).0);
+        }
+    }
+}
+
+/// A report of each kind where all reports before it were of one kind: the first ones, the last that fits, and where the count is full.
+fn about_kinds(cases: &mut Vec<Case>) {
+    for held in 1..6 {
+        for kind in KINDS {
+            for seen in [0, 1, u64::MAX - 2, u64::MAX - 1, u64::MAX] {
+                let mut m = plain();
+                let mut tallies = [seen, 0, 0, 0, 0, 0];
+                tallies[held] = seen;
+                m.set_tallies(tallies);
+                let (report, ours) = of_kind(kind);
+                let (case, after) = m.call(&process(report, ours, 7000));
+                cases.push(case);
+                cases.extend([Call::Rekey, Call::Seen, Call::Stale, Call::NoEcho].map(|call| after.call(&call).0));
+            }
+        }
+    }
+    from_new(cases);
+}
+
+/// Every kind in a history from new, with each count after each call: the same report again is stale, but for a first one after a rekey.
+fn from_new(cases: &mut Vec<Case>) {
+    let (no_echo, ours) = of_kind(Kind::NoEcho);
+    let (mut sample, mut zero, mut failure) = (report(), report(), report());
+    (sample.highest_counter, zero.highest_counter, failure.highest_counter) = (131, 132, 133);
+    let calls = [
+        process(no_echo.clone(), ours, 1000),
+        process(no_echo.clone(), ours, 2000),
+        process(sample, 1060, 3000),
+        process(no_echo.clone(), ours, 4000),
+        process(zero, 1020, 5000),
+        Call::Reverse { packets: 93, highest: 99 },
+        process(failure.clone(), 1019, 6000),
+        Call::Rekey,
+        process(failure, 1019, 7000),
+        process(no_echo, ours, 8000),
+    ];
+    let told = [
+        [1, 0, 1, 0, 0, 0],
+        [2, 1, 1, 0, 0, 0],
+        [3, 1, 1, 1, 0, 0],
+        [4, 2, 1, 1, 0, 0],
+        [5, 2, 1, 1, 1, 0],
+        [5, 2, 1, 1, 1, 0],
+        [6, 2, 1, 1, 1, 1],
+        [6, 2, 1, 1, 1, 1],
+        [7, 2, 1, 1, 1, 2],
+        [8, 3, 1, 1, 1, 2],
+    ];
+    let mut m = Metrics::of(&MmpMetrics::new());
+    for (call, tallies) in calls.iter().zip(told) {
+        let (case, after) = m.call(call);
+        cases.push(case);
+        assert!(after.tallies() == tallies, "the history's kinds are others");
+        cases.extend(PLAIN.iter().map(|call| after.call(call).0));
+        m = after;
     }
 }

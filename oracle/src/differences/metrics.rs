@@ -12,7 +12,44 @@ fn float(bits: u64) -> String {
     f64::from_bits(bits).to_string()
 }
 
+/// A report with every field 0.
+fn process(now_ms: u64) -> OnMetrics {
+    OnMetrics::Process {
+        report: report_of(&[0; 14]),
+        our_timestamp_ms: 0,
+        now_ms,
+    }
+}
+
 pub fn rows(points: &mut Points) {
+    refused(points);
+    uncounted(points);
+}
+
+/// Document 02, W-205: the first report of each kind that the commit does not count.
+fn uncounted(points: &mut Points) {
+    let new = Metrics::of(&MmpMetrics::new());
+    let mut kept = new;
+    kept.fields.has_prev_rr = true;
+    for (m, input, place, kind) in [
+        (new, "a first report, echo 0", 46, "without an echo"),
+        (kept, "a stale report", 45, "stale"),
+    ] {
+        points.shown(
+            "`MmpMetrics::process_receiver_report`",
+            input,
+            || {
+                let mut c = metrics_access::state(&m.fields);
+                process(0).run(&mut c);
+                format!("reports seen: {}", c.reports_seen())
+            },
+            || m.call(&process(0)).0,
+            |numbers| format!("reports seen: {}, {kind}: {}", numbers[39], numbers[place]),
+        );
+    }
+}
+
+fn refused(points: &mut Points) {
     let new = Metrics::of(&MmpMetrics::new());
     let with = |change: &dyn Fn(&mut metrics_access::Fields)| {
         let mut m = new;
@@ -28,18 +65,14 @@ pub fn rows(points: &mut Points) {
         };
         points.row(name, input, run, || m.call(&call).0);
     };
-    let process = |now_ms| OnMetrics::Process {
-        report: report_of(&[0; 14]),
-        our_timestamp_ms: 0,
-        now_ms,
-    };
     let name = "`MmpMetrics::process_receiver_report`";
     let seen = |_: &[u64], f: &metrics_access::Fields| format!("reports seen: {}", f.reports_seen);
-    let full = with(&|f| f.reports_seen = u64::MAX);
     let kept = with(&|f| f.has_prev_rr = true);
-    let full_kept = with(&|f| (f.reports_seen, f.has_prev_rr) = (u64::MAX, true));
-    on(name, "2^64 − 1 reports seen, a first report", full, process(0), &seen);
-    on(name, "2^64 − 1 reports seen, a stale report", full_kept, process(0), &seen);
+    let [mut full, mut full_kept] = [new, kept];
+    full.set_tallies([u64::MAX, u64::MAX, 0, 0, 0, 0]);
+    full_kept.set_tallies([u64::MAX, u64::MAX, 0, 0, 0, 0]);
+    on(name, "2^64 − 1 stale reports seen, a first report", full, process(0), &seen);
+    on(name, "2^64 − 1 stale reports seen, a stale report", full_kept, process(0), &seen);
     on(name, "a new state, clock 2^48", new, process(MAX_MS + 1), &|_, f| {
         format!("report kept from {}", f.prev_rr_ms.unwrap_or(0))
     });
@@ -56,6 +89,8 @@ pub fn rows(points: &mut Points) {
         process(0),
         &|_, f| format!("samples: {}, reports seen: {}", f.rtt_samples, f.reports_seen),
     );
+    let of_no_kind = with(&|f| f.reports_seen = 1);
+    on(name, "1 report seen, 0 of each kind, a first report", of_no_kind, process(0), &seen);
     let reverse = OnMetrics::Reverse { packets: 0, highest: 1 };
     let etx = with(&|f| f.etx = 0.99);
     on(

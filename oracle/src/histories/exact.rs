@@ -3,6 +3,7 @@
 use crate::histories::whole::Whole;
 use crate::proto::mmp::wire::ReceiverReport;
 use crate::records::receiver_state::GRACE_MS;
+use crate::records::report_kind::{counters, kind_of, Kind};
 use crate::records::{metrics_call, receiver_call};
 
 /// S and V over 8^n, after n samples.
@@ -13,21 +14,12 @@ pub struct RoundTrip {
     pub v: Whole,
 }
 
-/// Of the calls on a metrics record: the report kept, by its five counters, and S and V.
+/// Of the calls on a metrics record: the report kept, by its five counters, S and V, and how many reports there were and of each kind.
 #[derive(Clone, Default)]
 pub struct Reports {
     kept: Option<[u64; 5]>,
     pub average: Option<RoundTrip>,
-}
-
-fn counters(rr: &ReceiverReport) -> [u64; 5] {
-    [
-        rr.highest_counter,
-        rr.cumulative_packets_recv,
-        rr.cumulative_bytes_recv,
-        rr.ecn_ce_count.into(),
-        rr.cumulative_reorder_count.into(),
-    ]
+    pub tallies: [u64; 6],
 }
 
 /// R in whole milliseconds, where a sample is taken.
@@ -59,21 +51,25 @@ impl RoundTrip {
 }
 
 impl Reports {
-    /// Whether a call is a report that is stale beside the one kept.
-    pub fn stale(&self, call: &metrics_call::Call) -> bool {
-        match (call, self.kept) {
-            (metrics_call::Call::Process { report, .. }, Some(kept)) => {
-                let now = counters(report);
-                now == kept || now.iter().zip(kept).any(|(now, kept)| *now < kept)
-            }
-            _ => false,
+    /// The kind of a report beside the one kept; none of another call.
+    pub fn kind(&self, call: &metrics_call::Call) -> Option<Kind> {
+        match call {
+            metrics_call::Call::Process {
+                report, our_timestamp_ms, ..
+            } => Some(kind_of(self.kept, report, *our_timestamp_ms)),
+            _ => None,
         }
     }
 
     /// An accepted call.
     pub fn hear(&mut self, call: &metrics_call::Call) {
+        let kind = self.kind(call);
+        if let Some(kind) = kind {
+            self.tallies[0] += 1;
+            self.tallies[1 + kind as usize] += 1;
+        }
         match call {
-            metrics_call::Call::Process { .. } if self.stale(call) => {}
+            metrics_call::Call::Process { .. } if kind == Some(Kind::Stale) => {}
             metrics_call::Call::Process {
                 report, our_timestamp_ms, ..
             } => {

@@ -5,7 +5,7 @@ use crate::proto::mmp::metrics::{MmpMetrics, RrLog};
 use crate::proto::mmp::wire::ReceiverReport;
 use crate::script::bounds::{bits, optional};
 
-/// Calls 603 to 619.
+/// Calls 603 to 621.
 #[derive(Clone)]
 pub enum Call {
     Process {
@@ -32,10 +32,12 @@ pub enum Call {
     Failures,
     LastRtt,
     KeepsRule,
+    Stale,
+    NoEcho,
 }
 
 /// The calls that take nothing beside the state and leave it.
-pub const PLAIN: [Call; 14] = [
+pub const PLAIN: [Call; 16] = [
     Call::SrttMs,
     Call::LossRate,
     Call::SmoothedLoss,
@@ -50,6 +52,8 @@ pub const PLAIN: [Call; 14] = [
     Call::Failures,
     Call::LastRtt,
     Call::KeepsRule,
+    Call::Stale,
+    Call::NoEcho,
 ];
 
 fn float(x: Option<f64>) -> Vec<u64> {
@@ -90,6 +94,8 @@ impl Call {
             Call::Failures => 617,
             Call::LastRtt => 618,
             Call::KeepsRule => 619,
+            Call::Stale => 620,
+            Call::NoEcho => 621,
         }
     }
 
@@ -156,6 +162,7 @@ impl Call {
             Call::Failures => vec![s.rtt_arith_fail()],
             Call::LastRtt => optional(s.last_rtt_ms().map(u64::from)).to_vec(),
             Call::KeepsRule => unreachable!("the commit has no rule"),
+            Call::Stale | Call::NoEcho => unreachable!("the commit counts neither"),
         }
     }
 }

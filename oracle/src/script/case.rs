@@ -4,6 +4,7 @@ use std::cell::Cell;
 use std::panic::{self, AssertUnwindSafe};
 
 use crate::records::owd_ring::Ring;
+use crate::records::report_kind::Kind;
 
 pub enum Answer {
     Numbers(Vec<u64>),
@@ -25,6 +26,8 @@ pub struct Case {
     pub late: (u64, bool),
     /// The window of an accepted trend or report, where it is full: its size, and whether it wraps.
     pub window: Option<(usize, bool)>,
+    /// The kind of an accepted report, with reports seen and those of each kind before it.
+    pub report: Option<(Kind, [u64; 6])>,
 }
 
 /// The greatest gap whose length is the commit's. Document 02, W-201, settles the length of a longer one.
@@ -41,6 +44,7 @@ impl Case {
             gap: 0,
             late: (0, false),
             window: None,
+            report: None,
         }
     }
 
@@ -70,6 +74,12 @@ impl Case {
         self
     }
 
+    /// An accepted report of this kind, on a record with these tallies.
+    pub fn report(mut self, kind: Option<Kind>, tallies: [u64; 6]) -> Self {
+        self.report = kind.map(|kind| (kind, tallies));
+        self
+    }
+
     pub fn malformed(line: String) -> Self {
         Self {
             call: 0,
@@ -80,6 +90,7 @@ impl Case {
             gap: 0,
             late: (0, false),
             window: None,
+            report: None,
         }
     }
 

@@ -53,6 +53,10 @@ pub struct Report {
     late: [[usize; 2]; 2],
     /// The full windows whose trend the commit settles, by call: their sizes, not wrapped and wrapped.
     windows: BTreeMap<u64, [BTreeSet<usize>; 2]>,
+    /// Accepted reports of each kind, those after which the count of reports is full, and the sets of kinds that the records before them had.
+    reports: [usize; 5],
+    last_reports: usize,
+    kinds_before: BTreeSet<[bool; 5]>,
     /// The payloads decoded, by call: how many, and their lengths up to `LONGEST`.
     payloads: BTreeMap<u64, (usize, BTreeSet<usize>)>,
     shown: usize,
@@ -88,6 +92,11 @@ impl Report {
             }
             if let Some((size, wrapped)) = case.window {
                 self.windows.entry(case.call).or_default()[usize::from(wrapped)].insert(size);
+            }
+            if let Some((kind, [seen, kinds @ ..])) = case.report {
+                self.reports[kind as usize] += 1;
+                self.last_reports += usize::from(seen == u64::MAX - 1);
+                self.kinds_before.insert(kinds.map(|n| n > 0));
             }
             if let Some((call, place)) = DECODERS.iter().find(|(call, _)| *call == case.call) {
                 let length = case.line.split(' ').nth(*place).and_then(|word| word.parse::<usize>().ok());
@@ -140,6 +149,12 @@ impl Report {
         let [[one, more], [raised_one, raised_more]] = self.late;
         println!(
             "late frames on a receiver, accepted: {one} behind by 1 and {more} by more; of these {raised_one} and {raised_more} raise the greatest lateness"
+        );
+        let [stale, no_echo, samples, zeros, failures] = self.reports;
+        println!(
+            "accepted reports: {stale} stale, {no_echo} without an echo, {samples} samples, {zeros} zeros, {failures} arithmetic failures; {} the last that fits; before them {} of the 32 sets of kinds",
+            self.last_reports,
+            self.kinds_before.len()
         );
         for (call, (many, lengths)) in &self.payloads {
             println!(

@@ -59,6 +59,8 @@ fn of_tallies(given: &[u64]) -> Reply {
         u64_of(given, 2),
         u64_of(given, 3),
         u64_of(given, 4),
+        u64_of(given, 5),
+        u64_of(given, 6),
     )))
 }
 

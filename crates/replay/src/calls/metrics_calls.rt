@@ -1,4 +1,4 @@
-// Calls 601 to 619: `MmpMetrics`.
+// Calls 601 to 621: `MmpMetrics`.
 use crate::calls::ewma_calls::and_trends;
 use crate::calls::ewma_calls::trends_of;
 use crate::calls::srtt_calls::and_round_trip;
@@ -43,12 +43,12 @@ pub fn answer(given: &[u64]) -> Reply {
 fn of_call(given: &[u64], m: MmpMetrics) -> Reply {
     match u64_of(given, 0) {
         603 => of_processed(m.process_receiver_report(
-            receiver_of(from(given, 40)),
-            u32_of(given, 54),
-            u64_of(given, 55),
+            receiver_of(from(given, 42)),
+            u32_of(given, 56),
+            u64_of(given, 57),
         )),
         604 => of_update(m.reset_for_rekey()),
-        _ => of_update(m.update_reverse_delivery(u64_of(given, 40), u64_of(given, 41))),
+        _ => of_update(m.update_reverse_delivery(u64_of(given, 42), u64_of(given, 43))),
     }
 }
 
@@ -74,7 +74,9 @@ fn of_count(given: &[u64], m: MmpMetrics) -> Reply {
         616 => of_u64(m.rtt_zero()),
         617 => of_u64(m.rtt_arith_fail()),
         618 => of_optional_u32(m.last_rtt_ms()),
-        _ => one(flag(m.keeps_rule())),
+        619 => one(flag(m.keeps_rule())),
+        620 => of_u64(m.stale_reports()),
+        _ => of_u64(m.no_echo_reports()),
     }
 }
 
@@ -113,6 +115,8 @@ fn metrics_of(given: &[u64]) -> MmpMetrics {
         rtt_zero: u64_of(given, 36),
         rtt_arith_fail: u64_of(given, 37),
         last_rtt_ms,
+        stale_reports: u64_of(given, 40),
+        no_echo_reports: u64_of(given, 41),
     }
 }
 
@@ -162,6 +166,8 @@ fn and_counts(reply: Reply, m: MmpMetrics) -> Reply {
         .and(m.rtt_zero)
         .and(m.rtt_arith_fail)
         .and_optional_u32(last_rtt_ms)
+        .and(m.stale_reports)
+        .and(m.no_echo_reports)
 }
 
 // The log entry behind what a call answers: its kind, and three numbers.
