@@ -121,10 +121,12 @@ def mend(name, value, capacity):
     if name == "ReceiverState":
         value["cumulative_reorder_count"] = min(value["cumulative_reorder_count"], value["cumulative_packets_recv"])
     if name == "MmpMetrics":
-        kinds = [n for n in value if n in ("rtt_samples", "rtt_zero", "rtt_arith_fail")]
+        kinds = [n for n in value if n in ("stale_reports", "no_echo_reports", "rtt_samples", "rtt_zero", "rtt_arith_fail")]
         for n in kinds:
             value[n] = min(value[n], 9)
-        value["reports_seen"] = max(value["reports_seen"], sum(value[n] for n in kinds))
+        # the kinds add up to the reports seen: what is left of them goes to one
+        seen = value["reports_seen"] = max(value["reports_seen"], sum(value[n] for n in kinds))
+        value[kinds[seen % len(kinds)]] += seen - sum(value[n] for n in kinds)
 
 
 def pattern(x):
