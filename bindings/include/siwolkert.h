@@ -1,4 +1,4 @@
-/* The proved link-measurement exports: link target/staticlib/libexports.a, which `rt staticlib exports` writes.
+/* Proved link measurement: link target/staticlib/libsiwolkert.a, which `rt staticlib siwolkert` writes.
  *
  * Every call takes any numbers, states and buffers. It returns 0, or the number of the first question that is answered no, and then leaves what it was
  * lent as it was (the payload checks write their two lengths beside a 7, and only there):
@@ -17,7 +17,7 @@ extern "C" {
 #endif
 
 /* What an end keeps of the frames that it sends to one peer. A new record is all zeros but for a report interval, 200 ms unless the caller has another. */
-struct mmp_sender_state {
+struct siwolkert_sender_state {
     uint64_t cumulative_packets_sent;
     uint64_t cumulative_bytes_sent;
     uint64_t interval_start_counter;
@@ -33,7 +33,7 @@ struct mmp_sender_state {
     uint32_t srtt_sample_count;
 };
 
-struct mmp_sender_report {
+struct siwolkert_sender_report {
     uint64_t interval_start_counter;
     uint64_t interval_end_counter;
     uint32_t interval_start_timestamp;
@@ -44,23 +44,23 @@ struct mmp_sender_report {
 };
 
 /* Whether a payload, what follows the type byte, is long enough for a report; 7 beside the needed and the given length. */
-uint8_t mmp_check_sender_payload(const uint8_t *payload, size_t len, uint64_t *needed, uint64_t *given);
-uint8_t mmp_check_receiver_payload(const uint8_t *payload, size_t len, uint64_t *needed, uint64_t *given);
+uint8_t siwolkert_check_sender_payload(const uint8_t *payload, size_t len, uint64_t *needed, uint64_t *given);
+uint8_t siwolkert_check_receiver_payload(const uint8_t *payload, size_t len, uint64_t *needed, uint64_t *given);
 
 /* Scaled jitter and a transit difference in µs: the scaled jitter after it. 1 */
-uint8_t mmp_jitter_update(int64_t jitter_q4, int32_t transit_delta, int64_t *updated);
+uint8_t siwolkert_jitter_update(int64_t jitter_q4, int32_t transit_delta, int64_t *updated);
 
 /* The expected transmission count of two delivery ratios. 11 */
-uint8_t mmp_compute_etx(double d_forward, double d_reverse, double *etx);
+uint8_t siwolkert_compute_etx(double d_forward, double d_reverse, double *etx);
 
 /* Whether the record keeps its rule. 1 */
-uint8_t mmp_sender_check(const struct mmp_sender_state *state);
+uint8_t siwolkert_sender_check(const struct siwolkert_sender_state *state);
 
 /* A frame is sent. 1, 3, 10 */
-uint8_t mmp_sender_record_sent(struct mmp_sender_state *state, uint64_t counter, uint32_t timestamp, size_t bytes);
+uint8_t siwolkert_sender_record_sent(struct siwolkert_sender_state *state, uint64_t counter, uint32_t timestamp, size_t bytes);
 
 /* A report of the interval. *some is false, and the report zeros, where no frame was sent since the last one. 1, 2 */
-uint8_t mmp_sender_build_report(struct mmp_sender_state *state, uint64_t now_ms, bool *some, struct mmp_sender_report *report);
+uint8_t siwolkert_sender_build_report(struct siwolkert_sender_state *state, uint64_t now_ms, bool *some, struct siwolkert_sender_report *report);
 
 #ifdef __cplusplus
 }

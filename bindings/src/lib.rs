@@ -1,9 +1,9 @@
-//! The proved link-measurement exports, safe to call from Rust.
+//! Proved link measurement, safe to call from Rust.
 //!
 //! Every call takes any numbers, states and buffers. It answers, or refuses by the number of the first question that is answered no ([`Refusal`]) and
-//! changes nothing that it was lent. What each call answers is proved in the crate `exports` of the repository; nothing is worked out here.
+//! changes nothing that it was lent. What each call answers is proved, in crates/siwolkert of the repository; nothing is worked out here.
 //!
-//! The archive comes from `rt staticlib exports`.
+//! The archive comes from `rt staticlib siwolkert`.
 
 pub mod raw;
 
@@ -81,7 +81,7 @@ impl Refusal {
         }
         match Refusal::of(status) {
             Some(refusal) => Err(refusal),
-            None => panic!("the archive returned {status}, which is no refusal: is libexports.a of another version?"),
+            None => panic!("the archive returned {status}, which is no refusal: is libsiwolkert.a of another version?"),
         }
     }
 }
@@ -141,7 +141,7 @@ fn checked(check: raw::PayloadCheck, payload: &[u8]) -> Result<(), MessageTooSho
 /// ```
 #[inline]
 pub fn check_sender_payload(payload: &[u8]) -> Result<(), MessageTooShort> {
-    checked(raw::mmp_check_sender_payload, payload)
+    checked(raw::siwolkert_check_sender_payload, payload)
 }
 
 /// Whether a payload (what follows the type byte) is long enough for a receiver's report.
@@ -152,7 +152,7 @@ pub fn check_sender_payload(payload: &[u8]) -> Result<(), MessageTooShort> {
 /// ```
 #[inline]
 pub fn check_receiver_payload(payload: &[u8]) -> Result<(), MessageTooShort> {
-    checked(raw::mmp_check_receiver_payload, payload)
+    checked(raw::siwolkert_check_receiver_payload, payload)
 }
 
 /// A step of the interarrival jitter: scaled jitter (16 times the jitter, in µs) and a transit difference in, the scaled jitter after it out.
@@ -167,7 +167,7 @@ pub fn check_receiver_payload(payload: &[u8]) -> Result<(), MessageTooShort> {
 pub fn jitter_update(jitter_q4: i64, transit_delta: i32) -> Result<i64, Refusal> {
     let mut updated = 0;
     // SAFETY: the out-parameter is a local
-    let status = unsafe { raw::mmp_jitter_update(jitter_q4, transit_delta, &mut updated) };
+    let status = unsafe { raw::siwolkert_jitter_update(jitter_q4, transit_delta, &mut updated) };
     Refusal::check(status).map(|()| updated)
 }
 
@@ -182,7 +182,7 @@ pub fn jitter_update(jitter_q4: i64, transit_delta: i32) -> Result<i64, Refusal>
 pub fn compute_etx(d_forward: f64, d_reverse: f64) -> Result<f64, Refusal> {
     let mut etx = 0.0;
     // SAFETY: the out-parameter is a local
-    let status = unsafe { raw::mmp_compute_etx(d_forward, d_reverse, &mut etx) };
+    let status = unsafe { raw::siwolkert_compute_etx(d_forward, d_reverse, &mut etx) };
     Refusal::check(status).map(|()| etx)
 }
 
@@ -262,7 +262,7 @@ impl SenderState {
     #[inline]
     pub fn check(&self) -> Result<(), Refusal> {
         // SAFETY: the record is borrowed for the call
-        Refusal::check(unsafe { raw::mmp_sender_check(self) })
+        Refusal::check(unsafe { raw::siwolkert_sender_check(self) })
     }
 
     /// A frame is sent. On a refusal the record stays as it is.
@@ -276,7 +276,7 @@ impl SenderState {
     #[inline]
     pub fn record_sent(&mut self, counter: u64, timestamp: u32, bytes: usize) -> Result<(), Refusal> {
         // SAFETY: the record is borrowed for the call, and nobody else holds it
-        Refusal::check(unsafe { raw::mmp_sender_record_sent(self, counter, timestamp, bytes) })
+        Refusal::check(unsafe { raw::siwolkert_sender_record_sent(self, counter, timestamp, bytes) })
     }
 
     /// A report of the interval, where a frame has been sent since the last one. On a refusal the record stays as it is.
@@ -294,7 +294,7 @@ impl SenderState {
         let mut some = false;
         let mut report = SenderReport::default();
         // SAFETY: the record is borrowed for the call, and the two out-parameters are locals
-        let status = unsafe { raw::mmp_sender_build_report(self, now_ms, &mut some, &mut report) };
+        let status = unsafe { raw::siwolkert_sender_build_report(self, now_ms, &mut some, &mut report) };
         Refusal::check(status).map(|()| some.then_some(report))
     }
 }

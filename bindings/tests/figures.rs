@@ -3,7 +3,7 @@
 use oracle::proto::mmp::algorithms;
 use oracle::proto::mmp::algorithms::oracle_access::{jitter, jitter_q4};
 use oracle::script::rng::Rng;
-use siwolkert::raw::{mmp_compute_etx, mmp_jitter_update};
+use siwolkert::raw::{siwolkert_compute_etx, siwolkert_jitter_update};
 use siwolkert::{compute_etx, jitter_update, Refusal};
 
 const MAX_JITTER_Q4: i64 = 1 << 35;
@@ -99,6 +99,6 @@ fn etx() {
 fn a_refusal_writes_nothing() {
     let (mut updated, mut value) = (77, 7.5);
     // SAFETY: the out-parameters are locals
-    let refused = unsafe { (mmp_jitter_update(-1, 16, &mut updated), mmp_compute_etx(1.5, 1.0, &mut value)) };
+    let refused = unsafe { (siwolkert_jitter_update(-1, 16, &mut updated), siwolkert_compute_etx(1.5, 1.0, &mut value)) };
     assert_eq!((refused, updated, value), ((1, 11), 77, 7.5));
 }

@@ -2,7 +2,7 @@
 
 use oracle::proto::mmp::wire::{ReceiverReport, SenderReport};
 use oracle::proto::Error;
-use siwolkert::raw::{mmp_check_receiver_payload, mmp_check_sender_payload, PayloadCheck};
+use siwolkert::raw::{siwolkert_check_receiver_payload, siwolkert_check_sender_payload, PayloadCheck};
 use siwolkert::{check_receiver_payload, check_sender_payload, MessageTooShort};
 
 fn expected<T>(decoded: Result<T, Error>) -> Result<(), MessageTooShort> {
@@ -41,10 +41,10 @@ fn every_length() {
 
 #[test]
 fn written_beside_a_seven_only() {
-    assert_eq!(left(mmp_check_sender_payload, &[0; 47]), (0, 77, 78));
-    assert_eq!(left(mmp_check_sender_payload, &[0; 46]), (7, 47, 46));
-    assert_eq!(left(mmp_check_receiver_payload, &[0; 67]), (0, 77, 78));
-    assert_eq!(left(mmp_check_receiver_payload, &[0; 66]), (7, 67, 66));
+    assert_eq!(left(siwolkert_check_sender_payload, &[0; 47]), (0, 77, 78));
+    assert_eq!(left(siwolkert_check_sender_payload, &[0; 46]), (7, 47, 46));
+    assert_eq!(left(siwolkert_check_receiver_payload, &[0; 67]), (0, 77, 78));
+    assert_eq!(left(siwolkert_check_receiver_payload, &[0; 66]), (7, 67, 66));
 }
 
 /// A million of each, by lengths.

@@ -2,7 +2,7 @@
 
 use oracle::proto::mmp::sender::oracle_access::{fields, state, Fields};
 use oracle::script::rng::Rng;
-use siwolkert::raw::mmp_sender_build_report;
+use siwolkert::raw::siwolkert_sender_build_report;
 use siwolkert::{Refusal, SenderReport, SenderState};
 
 const MAX_MS: u64 = (1 << 48) - 1;
@@ -157,6 +157,6 @@ fn a_refusal_writes_nothing() {
     let (mut some, mut report) = (true, SenderReport::default());
     report.interval_bytes_sent = 77;
     // SAFETY: record and out-parameters are locals
-    let status = unsafe { mmp_sender_build_report(&mut s, MAX_MS + 1, &mut some, &mut report) };
+    let status = unsafe { siwolkert_sender_build_report(&mut s, MAX_MS + 1, &mut some, &mut report) };
     assert_eq!((status, some, report.interval_bytes_sent, s), (2, true, 77, SenderState::new()));
 }

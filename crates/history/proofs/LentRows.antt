@@ -15,10 +15,10 @@ use Rattle.refusals.specs.Questions.{question, firstNo}
 use Rattle.wire.specs.declared.sender_report.SenderReport.{SenderReport}
 use Rattle.sender.specs.State.{keepsRule, refusalOf}
 use Rattle.sender.specs.declared.SenderState.{SenderState}
-use Rattle.exports.proofs.RefusedStays.{some-stays, some-told, report-left, report-told}
-use Rattle.exports.proofs.lent.mmp_sender_check as mmp-sender-check
-use Rattle.exports.proofs.lent.mmp_sender_record_sent as mmp-sender-record-sent
-use Rattle.exports.proofs.lent.mmp_sender_build_report as mmp-sender-build-report
+use Rattle.siwolkert.proofs.RefusedStays.{some-stays, some-told, report-left, report-told}
+use Rattle.siwolkert.proofs.lent.siwolkert_sender_check as siwolkert-sender-check
+use Rattle.siwolkert.proofs.lent.siwolkert_sender_record_sent as siwolkert-sender-record-sent
+use Rattle.siwolkert.proofs.lent.siwolkert_sender_build_report as siwolkert-sender-build-report
 use Rattle.history.specs.Run.{Step}
 use Rattle.history.specs.Answers.{Fact, Answer}
 use Rattle.history.specs.SenderCalls.{SenderQuestion, senderTold, SenderCall, updating, senderStep}
@@ -43,17 +43,17 @@ checked : (status : ℕ) (s : SenderState) → status ≡ refusalOf s → Checke
 unfolding senderStep senderTold refusalOf answerU64
 checked status s e = record { rule = ap (λ b. Answer.told (Fact.yes-or-no b)) (ap (λ n. eqb n 0) e ∙ none-refused (keepsRule s)); refusal = e }
 
-pub mmp-sender-check-row : (κs : _) (a : _) (r : _) (s : _) →
-    Says (λ w. mmp-sender-check.clauses (w .𝓤) (w .H) (w .𝓖 .A) (w .𝓜 .mem) (w .𝓡 .run) κs a .ensures tt r s)
+pub siwolkert-sender-check-row : (κs : _) (a : _) (r : _) (s : _) →
+    Says (λ w. siwolkert-sender-check.clauses (w .𝓤) (w .H) (w .𝓖 .A) (w .𝓜 .mem) (w .𝓡 .run) κs a .ensures tt r s)
     (Checked r (a .0 .now))
-mmp-sender-check-row κs a r s w = fact-mono (w .𝓤) _ _ (checked r (a .0 .now))
+siwolkert-sender-check-row κs a r s w = fact-mono (w .𝓤) _ _ (checked r (a .0 .now))
 
 -- ---- a frame is sent
-pub mmp-sender-record-sent-row : (κs : _) (a : _) (r : _) (s : _) →
-    Says (λ w. mmp-sender-record-sent.clauses (w .𝓤) (w .H) (w .𝓖 .A) (w .𝓜 .mem) (w .𝓡 .run) κs a .ensures tt r s)
+pub siwolkert-sender-record-sent-row : (κs : _) (a : _) (r : _) (s : _) →
+    Says (λ w. siwolkert-sender-record-sent.clauses (w .𝓤) (w .H) (w .𝓖 .A) (w .𝓜 .mem) (w .𝓡 .run) κs a .ensures tt r s)
     (updating (record { refusal = r; state = s .0 .now }) ≡ senderStep (SenderCall.«record_sent» (a .1 .0) (a .1 .1 .0) (a .1 .1 .1 .0)) (a .0 .now))
 unfolding senderStep
-mmp-sender-record-sent-row κs a r s w = fact-mono (w .𝓤) _ _ (λ e. λ i. updating (record { refusal = e .0 i; state = e .1 i }))
+siwolkert-sender-record-sent-row κs a r s w = fact-mono (w .𝓤) _ _ (λ e. λ i. updating (record { refusal = e .0 i; state = e .1 i }))
 
 -- ---- a report is built
 -- the step, and what the call left: the record, whether there is a report, and the report, the last two beside what they were
@@ -63,11 +63,11 @@ pub record Built (step : Step Answer SenderState) (status : ℕ) (state : Sender
   pub answered : status ≡ 0 → Answer.sender-report some report ≡ step .answer
   pub refused : status ≢ 0 → (some ≡ some-was) × (report ≡ report-was)
 
-pub mmp-sender-build-report-row : (κs : _) (a : _) (r : _) (s : _) →
-    Says (λ w. mmp-sender-build-report.clauses (w .𝓤) (w .H) (w .𝓖 .A) (w .𝓜 .mem) (w .𝓡 .run) κs a .ensures tt r s)
+pub siwolkert-sender-build-report-row : (κs : _) (a : _) (r : _) (s : _) →
+    Says (λ w. siwolkert-sender-build-report.clauses (w .𝓤) (w .H) (w .𝓖 .A) (w .𝓜 .mem) (w .𝓡 .run) κs a .ensures tt r s)
     (Built (senderStep (SenderCall.«build_report» (a .1 .0)) (a .0 .now)) r (s .0 .now) (a .1 .1 .0 .now) (s .1 .1 .0 .now) (a .1 .1 .1 .0 .now) (s .1 .1 .1 .0 .now))
 unfolding senderStep
-mmp-sender-build-report-row κs a r s w =
+siwolkert-sender-build-report-row κs a r s w =
     fact-mono (w .𝓤) _ _
     (λ e.
     record {

@@ -1,4 +1,4 @@
--- `mmp_sender_record_sent` meets its contract: a walk of its MIR, by hand. The borrow is opened, the record is copied out and passed by value, and the borrow is closed at
+-- `siwolkert_sender_record_sent` meets its contract: a walk of its MIR, by hand. The borrow is opened, the record is copied out and passed by value, and the borrow is closed at
 -- the answer's record, or, where the call refused, at the record that was lent.
 use mathlib.Core.Path.{_≡_, refl, sym, ap, _∙_}
 use mathlib.Core.List.{[], _∷_, List}
@@ -51,12 +51,12 @@ use Rattle.sender.proofs.SenderState.record_sent as g
 use Rattle.sender.proofs.SenderState.record_sent.Symbol as g-def
 use Rattle.sender.proofs.SenderState.record_sent.Symbol.{name as #g}
 use Rattle.sender.proofs.SenderState.record_sent.Met as g-thm
-use Rattle.exports.proofs.RefusedStays.{sent-stays}
-use Rattle.exports.proofs.lent.mmp_sender_record_sent.Key.{name as #f}
-use Rattle.exports.proofs.lent.mmp_sender_record_sent as f
-use Rattle.exports.proofs.lent.mmp_sender_record_sent.Statement as stated
-use Rattle.exports.proofs.lent.mmp_sender_record_sent.Code as code
-use Rattle.exports.proofs.lent.mmp_sender_record_sent.Code.Mir as mir
+use Rattle.siwolkert.proofs.RefusedStays.{sent-stays}
+use Rattle.siwolkert.proofs.lent.siwolkert_sender_record_sent.Key.{name as #f}
+use Rattle.siwolkert.proofs.lent.siwolkert_sender_record_sent as f
+use Rattle.siwolkert.proofs.lent.siwolkert_sender_record_sent.Statement as stated
+use Rattle.siwolkert.proofs.lent.siwolkert_sender_record_sent.Code as code
+use Rattle.siwolkert.proofs.lent.siwolkert_sender_record_sent.Code.Mir as mir
 
 abbrev Arg : Type 0
 Arg = RefT SenderState × (ℕ × (ℕ × (ℕ × Unit {0})))
@@ -156,9 +156,9 @@ meets 𝓤 H A W mem run 𝓣 known =
     walk-meets 𝓤 H A f.ended stayed W (goes-ref 𝓤 H A W 1 0 tt (plain (λ _. T.the-row)), (goes-none 𝓤 H A W 1 (λ _. u64) yes (λ κs x f. refl), (goes-none 𝓤 H A W 1 (λ _. u32) yes (λ κs x f. refl), (goes-none 𝓤 H A W 1 (λ _. usize) yes (λ κs x f. refl), tt)))) (f.clauses 𝓤 H A mem run)
     (WpFn 𝓤 H (𝓣 .C) (𝓣 .Λ) code.function) (WpFn-mono 𝓤 H (W .laws) 𝓣 code.function) (walks 𝓤 H A W mem run (𝓣 .C) (𝓣 .Λ) (fmOf 𝓤 H (W .laws) 𝓣) known)
 
-pub mmp-sender-record-sent-spec : {M : Type 1} → stated.statement M
+pub siwolkert-sender-record-sent-spec : {M : Type 1} → stated.statement M
 unfolding code.routine tablesOf
-mmp-sender-record-sent-spec 𝓤 H 𝓜 𝓖 𝓡 =
+siwolkert-sender-record-sent-spec 𝓤 H 𝓜 𝓖 𝓡 =
     entered 𝓤 H (tripleOf 𝓤 H (𝓖 .A) f.signature (f.spec 𝓤 H (𝓖 .A) (𝓜 .mem) (𝓡 .run)))
     (tables 𝓤 H 𝓜 𝓡 code.env .C) (tables 𝓤 H 𝓜 𝓡 code.env .Λ) #f code.function (code.unfolded 𝓤 H 𝓜 𝓡)
     (meets 𝓤 H (𝓖 .A) (givenOf 𝓤 H 𝓜 𝓖) (𝓜 .mem) (𝓡 .run) (tablesOf 𝓤 H 𝓜 (tables 𝓤 H 𝓜 𝓡 code.env))

@@ -1,12 +1,12 @@
--- `exports::mmp_compute_etx` meets its contract.
+-- `siwolkert::siwolkert_compute_etx` meets its contract.
 use borrow.Author.Needs.{needs}
 use mathlib.Core.Path.{refl, sym, ap, _∙_}
 use borrow.Author.Tests.{eq-eqb, ne-eqb}
 use Rattle.refusals.specs.declared.answer.AnswerF64.{AnswerF64}
 use Rattle.refusals.proofs.PickedByTest.{yes, no}
-use Rattle.exports.specs.Figures.{etxInto}
-use Rattle.exports.proofs.mmp_compute_etx.Statement.{statement}
-use Rattle.exports.proofs.mmp_compute_etx.Tie as tie
+use Rattle.siwolkert.specs.Figures.{etxInto}
+use Rattle.siwolkert.proofs.siwolkert_compute_etx.Statement.{statement}
+use Rattle.siwolkert.proofs.siwolkert_compute_etx.Tie as tie
 
 returns : tie.Need-returns
 unfolding etxInto
@@ -22,5 +22,5 @@ returns-2 c =
     let r = ap (λ (a : AnswerF64). a .refusal) e in
     (r, no _ (ne-eqb _ 0 (λ z. c .if1 .left (r ∙ z))) refl)
 
-pub mmp-compute-etx-spec : {M : Type 1} → statement M
-mmp-compute-etx-spec = tie.close (tie.spec (λ c κs. search needs) returns returns-2)
+pub siwolkert-compute-etx-spec : {M : Type 1} → statement M
+siwolkert-compute-etx-spec = tie.close (tie.spec (λ c κs. search needs) returns returns-2)

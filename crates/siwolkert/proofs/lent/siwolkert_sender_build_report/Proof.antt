@@ -1,4 +1,4 @@
--- `mmp_sender_build_report` meets its contract: a walk of its MIR, by hand. The record is copied out of its borrow and passed by value. Where the call answered, the record, the
+-- `siwolkert_sender_build_report` meets its contract: a walk of its MIR, by hand. The record is copied out of its borrow and passed by value. Where the call answered, the record, the
 -- flag and the report are stored, each behind its borrow; where it refused, the borrows stay as they were.
 use mathlib.Core.Path.{_≡_, refl, sym, ap, _∙_}
 use mathlib.Core.Bool.{Bool, true, false}
@@ -55,13 +55,13 @@ use Rattle.sender.proofs.SenderState.build_report as g
 use Rattle.sender.proofs.SenderState.build_report.Symbol as g-def
 use Rattle.sender.proofs.SenderState.build_report.Symbol.{name as #g}
 use Rattle.sender.proofs.SenderState.build_report.Met as g-thm
-use Rattle.exports.specs.Lent.{someInto, reportInto}
-use Rattle.exports.proofs.RefusedStays.{report-stays, some-stays, some-told, report-left, report-told}
-use Rattle.exports.proofs.lent.mmp_sender_build_report.Key.{name as #f}
-use Rattle.exports.proofs.lent.mmp_sender_build_report as f
-use Rattle.exports.proofs.lent.mmp_sender_build_report.Statement as stated
-use Rattle.exports.proofs.lent.mmp_sender_build_report.Code as code
-use Rattle.exports.proofs.lent.mmp_sender_build_report.Code.Mir as mir
+use Rattle.siwolkert.specs.Lent.{someInto, reportInto}
+use Rattle.siwolkert.proofs.RefusedStays.{report-stays, some-stays, some-told, report-left, report-told}
+use Rattle.siwolkert.proofs.lent.siwolkert_sender_build_report.Key.{name as #f}
+use Rattle.siwolkert.proofs.lent.siwolkert_sender_build_report as f
+use Rattle.siwolkert.proofs.lent.siwolkert_sender_build_report.Statement as stated
+use Rattle.siwolkert.proofs.lent.siwolkert_sender_build_report.Code as code
+use Rattle.siwolkert.proofs.lent.siwolkert_sender_build_report.Code.Mir as mir
 
 abbrev Arg : Type 0
 Arg = RefT SenderState × (ℕ × (RefT Bool × (RefT SenderReport × Unit {0})))
@@ -194,9 +194,9 @@ meets 𝓤 H A W mem run 𝓣 known =
     walk-meets 𝓤 H A f.ended stayed W (goes-ref 𝓤 H A W 3 0 tt (plain (λ _. T.the-row)), (goes-none 𝓤 H A W 3 (λ _. u64) yes (λ κs x f. refl), (goes-ref 𝓤 H A W 3 1 tt (plain (λ _. Boolean)), (goes-ref 𝓤 H A W 3 2 tt (plain (λ _. R.the-row)), tt)))) (f.clauses 𝓤 H A mem run)
     (WpFn 𝓤 H (𝓣 .C) (𝓣 .Λ) code.function) (WpFn-mono 𝓤 H (W .laws) 𝓣 code.function) (walks 𝓤 H A W mem run (𝓣 .C) (𝓣 .Λ) (fmOf 𝓤 H (W .laws) 𝓣) known)
 
-pub mmp-sender-build-report-spec : {M : Type 1} → stated.statement M
+pub siwolkert-sender-build-report-spec : {M : Type 1} → stated.statement M
 unfolding code.routine tablesOf
-mmp-sender-build-report-spec 𝓤 H 𝓜 𝓖 𝓡 =
+siwolkert-sender-build-report-spec 𝓤 H 𝓜 𝓖 𝓡 =
     entered 𝓤 H (tripleOf 𝓤 H (𝓖 .A) f.signature (f.spec 𝓤 H (𝓖 .A) (𝓜 .mem) (𝓡 .run)))
     (tables 𝓤 H 𝓜 𝓡 code.env .C) (tables 𝓤 H 𝓜 𝓡 code.env .Λ) #f code.function (code.unfolded 𝓤 H 𝓜 𝓡)
     (meets 𝓤 H (𝓖 .A) (givenOf 𝓤 H 𝓜 𝓖) (𝓜 .mem) (𝓡 .run) (tablesOf 𝓤 H 𝓜 (tables 𝓤 H 𝓜 𝓡 code.env))

@@ -1,4 +1,4 @@
--- `mmp_sender_check` meets its contract: a walk of its MIR, by hand. The borrow is looked into for the record, shut again, and the record is passed by value.
+-- `siwolkert_sender_check` meets its contract: a walk of its MIR, by hand. The borrow is looked into for the record, shut again, and the record is passed by value.
 use mathlib.Core.Path.{_≡_, refl, ap}
 use mathlib.Core.List.{[], _∷_, List}
 use Prim.Native.Nat.{ℕ, _<_, _^_}
@@ -39,14 +39,14 @@ use Rattle.sender.specs.State.{refusalOf}
 use Rattle.sender.specs.declared.SenderState.{SenderState}
 use Rattle.sender.proofs.SenderState as T
 use Rattle.sender.proofs.SenderState.Laws as T′
-use Rattle.exports.proofs.lent.rule_status as g
-use Rattle.exports.proofs.lent.rule_status.Symbol as g-def
-use Rattle.exports.proofs.lent.rule_status.Symbol.{name as #g}
-use Rattle.exports.proofs.lent.rule_status.Met as g-thm
-use Rattle.exports.proofs.lent.mmp_sender_check.Key.{name as #f}
-use Rattle.exports.proofs.lent.mmp_sender_check as f
-use Rattle.exports.proofs.lent.mmp_sender_check.Statement as stated
-use Rattle.exports.proofs.lent.mmp_sender_check.Code as code
+use Rattle.siwolkert.proofs.lent.rule_status as g
+use Rattle.siwolkert.proofs.lent.rule_status.Symbol as g-def
+use Rattle.siwolkert.proofs.lent.rule_status.Symbol.{name as #g}
+use Rattle.siwolkert.proofs.lent.rule_status.Met as g-thm
+use Rattle.siwolkert.proofs.lent.siwolkert_sender_check.Key.{name as #f}
+use Rattle.siwolkert.proofs.lent.siwolkert_sender_check as f
+use Rattle.siwolkert.proofs.lent.siwolkert_sender_check.Statement as stated
+use Rattle.siwolkert.proofs.lent.siwolkert_sender_check.Code as code
 
 abbrev Arg : Type 0
 Arg = RefT SenderState × Unit {0}
@@ -120,10 +120,10 @@ meets : {M : Type 1} (𝓤 : URA M) (H : Heap 𝓤) (A : Atoms 𝓤) (W : Given 
 meets 𝓤 H A W mem run 𝓣 known = walk-meets 𝓤 H A f.ended stayed W (goes-none-ref 𝓤 H A W 1 (0 ∷ []) tt (plain (λ _. T.the-row)) yes, tt) (f.clauses 𝓤 H A mem run) (WpFn 𝓤 H (𝓣 .C) (𝓣 .Λ) code.function) (WpFn-mono 𝓤 H (W .laws) 𝓣 code.function)
     (walks 𝓤 H A W mem run (𝓣 .C) (𝓣 .Λ) (fmOf 𝓤 H (W .laws) 𝓣) known)
 
-pub mmp-sender-check-spec : {M : Type 1} → stated.statement M
+pub siwolkert-sender-check-spec : {M : Type 1} → stated.statement M
 unfolding code.routine tablesOf
-mmp-sender-check-spec 𝓤 H 𝓜 𝓖 𝓡 =
+siwolkert-sender-check-spec 𝓤 H 𝓜 𝓖 𝓡 =
     entered 𝓤 H (tripleOf 𝓤 H (𝓖 .A) f.signature (f.spec 𝓤 H (𝓖 .A) (𝓜 .mem) (𝓡 .run)))
     (tables 𝓤 H 𝓜 𝓡 code.env .C) (tables 𝓤 H 𝓜 𝓡 code.env .Λ) #f code.function (code.unfolded 𝓤 H 𝓜 𝓡)
     (meets 𝓤 H (𝓖 .A) (givenOf 𝓤 H 𝓜 𝓖) (𝓜 .mem) (𝓡 .run) (tablesOf 𝓤 H 𝓜 (tables 𝓤 H 𝓜 𝓡 code.env))
-    (cited 𝓤 H (G 𝓤 H (𝓖 .A) (𝓜 .mem) (𝓡 .run)) 𝓜 𝓡 code.env #g g-def.routine code.calls-exports·lent·rule-status (g-thm.met 𝓤 H 𝓜 𝓖 𝓡)))
+    (cited 𝓤 H (G 𝓤 H (𝓖 .A) (𝓜 .mem) (𝓡 .run)) 𝓜 𝓡 code.env #g g-def.routine code.calls-siwolkert·lent·rule-status (g-thm.met 𝓤 H 𝓜 𝓖 𝓡)))

@@ -10,7 +10,7 @@ use Rattle.sender.specs.declared.SenderState.{SenderState}
 use Rattle.sender.specs.declared.reports.SenderReportBuilt.{SenderReportBuilt}
 use Rattle.sender.proofs.RuleKept.{report-refusal}
 use Rattle.wire.specs.declared.sender_report.SenderReport.{SenderReport}
-use Rattle.exports.specs.Lent.{someInto, reportInto}
+use Rattle.siwolkert.specs.Lent.{someInto, reportInto}
 
 pub sent-stays : (s : SenderState) (counter timestamp bytes : ℕ) → eqb (sentOf s counter timestamp bytes .refusal) 0 ≡ false → s ≡ sentOf s counter timestamp bytes .state
 unfolding sentOf

@@ -2,14 +2,18 @@
 pub mod lent; // lent.rt: the sender's record
 
 ghost use mathlib.Core.Path.{_≡_};
-ghost use Rattle.exports.specs.PayloadCheck.{checkStatus, checkNeeded, checkGiven};
-ghost use Rattle.exports.specs.Figures.{jitterStatus, jitterInto, etxStatus, etxInto};
+ghost use Rattle.siwolkert.specs.PayloadCheck.{checkStatus, checkNeeded, checkGiven};
+ghost use Rattle.siwolkert.specs.Figures.{jitterStatus, jitterInto, etxStatus, etxInto};
 use algorithms::etx::compute_etx;
 use algorithms::jitter::JitterEstimator;
 
 // Whether a payload is long enough for a sender's report. Where it is not, 7, with the needed and the given length.
 #[no_mangle]
-pub extern "C" fn mmp_check_sender_payload(payload: &[u8], needed: &mut u64, given: &mut u64) -> u8
+pub extern "C" fn siwolkert_check_sender_payload(
+    payload: &[u8],
+    needed: &mut u64,
+    given: &mut u64,
+) -> u8
     ensures { λ r. ⌜ (r ≡ checkStatus 47 (now (payload .entry)))
         × (now (needed .exit) ≡ checkNeeded 47 (now (payload .entry)) (now (needed .entry)))
         × (now (given .exit) ≡ checkGiven 47 (now (payload .entry)) (now (given .entry))) ⌝ }
@@ -19,7 +23,7 @@ pub extern "C" fn mmp_check_sender_payload(payload: &[u8], needed: &mut u64, giv
 
 // The same for a receiver's report.
 #[no_mangle]
-pub extern "C" fn mmp_check_receiver_payload(
+pub extern "C" fn siwolkert_check_receiver_payload(
     payload: &[u8],
     needed: &mut u64,
     given: &mut u64,
@@ -46,7 +50,11 @@ fn payload_check(payload: &[u8], n: usize, needed: &mut u64, given: &mut u64) ->
 
 // The jitter step: scaled jitter and a transit delta in, the new scaled jitter out.
 #[no_mangle]
-pub extern "C" fn mmp_jitter_update(jitter_q4: i64, transit_delta: i32, updated: &mut i64) -> u8
+pub extern "C" fn siwolkert_jitter_update(
+    jitter_q4: i64,
+    transit_delta: i32,
+    updated: &mut i64,
+) -> u8
     ensures { λ r. ⌜ (r ≡ jitterStatus «jitter_q4») × (now (updated .exit) ≡ jitterInto «jitter_q4» «transit_delta» (now (updated .entry))) ⌝ }
 {
     let answer = JitterEstimator { jitter_q4 }.update(transit_delta);
@@ -61,7 +69,7 @@ pub extern "C" fn mmp_jitter_update(jitter_q4: i64, transit_delta: i32, updated:
 
 // The expected transmission count of two delivery ratios.
 #[no_mangle]
-pub extern "C" fn mmp_compute_etx(d_forward: f64, d_reverse: f64, etx: &mut f64) -> u8
+pub extern "C" fn siwolkert_compute_etx(d_forward: f64, d_reverse: f64, etx: &mut f64) -> u8
     ensures { λ r. ⌜ (r ≡ etxStatus «d_forward» «d_reverse») × (now (etx .exit) ≡ etxInto «d_forward» «d_reverse» (now (etx .entry))) ⌝ }
 {
     let answer = compute_etx(d_forward, d_reverse);

@@ -3,14 +3,14 @@ ghost use mathlib.Core.Path.{_≡_};
 ghost use Rattle.sender.specs.State.{refusalOf};
 ghost use Rattle.sender.specs.Sent.{sentOf};
 ghost use Rattle.sender.specs.Reports.{builtOf};
-ghost use Rattle.exports.specs.Lent.{someInto, reportInto};
+ghost use Rattle.siwolkert.specs.Lent.{someInto, reportInto};
 use refusals::questions::Questions;
 use sender::SenderState;
 use wire::sender_report::SenderReport;
 
 // Whether a record keeps the state rule.
 #[no_mangle]
-pub extern "C" fn mmp_sender_check(state: &SenderState) -> u8
+pub extern "C" fn siwolkert_sender_check(state: &SenderState) -> u8
     ensures { λ r. ⌜ r ≡ refusalOf (now (state .entry)) ⌝ }
 {
     rule_status(*state)
@@ -26,7 +26,7 @@ fn rule_status(state: SenderState) -> u8
 
 // A frame is sent.
 #[no_mangle]
-pub extern "C" fn mmp_sender_record_sent(
+pub extern "C" fn siwolkert_sender_record_sent(
     state: &mut SenderState,
     counter: u64,
     timestamp: u32,
@@ -44,7 +44,7 @@ pub extern "C" fn mmp_sender_record_sent(
 
 // A report is built where a frame has been sent since the last one; else `some` is false and the report zeros.
 #[no_mangle]
-pub extern "C" fn mmp_sender_build_report(
+pub extern "C" fn siwolkert_sender_build_report(
     state: &mut SenderState,
     now_ms: u64,
     some: &mut bool,

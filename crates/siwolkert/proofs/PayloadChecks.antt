@@ -7,7 +7,7 @@ use Rattle.codec.specs.declared.reader.Length.{Length}
 use Rattle.codec.specs.declared.reader.Length.the-variants.{Enough, TooShort}
 use Rattle.wire.specs.SenderReport as Sender
 use Rattle.wire.specs.ReceiverReport as Receiver
-use Rattle.exports.specs.PayloadCheck.{checkStatus, checkNeeded, checkGiven}
+use Rattle.siwolkert.specs.PayloadCheck.{checkStatus, checkNeeded, checkGiven}
 
 -- the three answers, where the caller had 0 in both lengths
 abbrev Same : ℕ → List ℕ → ℕ → ℕ → ℕ → Type 0

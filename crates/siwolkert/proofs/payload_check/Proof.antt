@@ -1,11 +1,11 @@
--- `exports::payload_check` meets its contract.
+-- `siwolkert::payload_check` meets its contract.
 use native.Mathlib.Omega.{arith}
 use mathlib.Core.Path.{sym}
 use Rattle.codec.specs.Reading.{neededFor, valuesOf, byLength}
 use Rattle.codec.proofs.Lengths.{answer-enough, answer-short}
-use Rattle.exports.specs.PayloadCheck.{checkStatus, checkNeeded, checkGiven}
-use Rattle.exports.proofs.payload_check.Statement.{statement}
-use Rattle.exports.proofs.payload_check.Tie as tie
+use Rattle.siwolkert.specs.PayloadCheck.{checkStatus, checkNeeded, checkGiven}
+use Rattle.siwolkert.proofs.payload_check.Statement.{statement}
+use Rattle.siwolkert.proofs.payload_check.Tie as tie
 
 returns : tie.Need-returns
 unfolding checkStatus checkNeeded checkGiven valuesOf byLength neededFor

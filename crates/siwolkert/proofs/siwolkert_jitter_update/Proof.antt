@@ -1,4 +1,4 @@
--- `exports::mmp_jitter_update` meets its contract.
+-- `siwolkert::siwolkert_jitter_update` meets its contract.
 use borrow.Author.Needs.{needs}
 use mathlib.Core.Path.{refl, sym, ap, ap₂, _∙_}
 use borrow.Author.Tests.{eq-eqb, ne-eqb}
@@ -8,9 +8,9 @@ use mir.Facts.{toZ-ofZ}
 use Rattle.refusals.proofs.PickedByTest.{yes, no}
 use Rattle.algorithms.specs.Jitter.{updateOf}
 use Rattle.algorithms.specs.declared.jitter.JitterUpdate.{JitterUpdate}
-use Rattle.exports.specs.Figures.{estimator, jitterInto}
-use Rattle.exports.proofs.mmp_jitter_update.Statement.{statement}
-use Rattle.exports.proofs.mmp_jitter_update.Tie as tie
+use Rattle.siwolkert.specs.Figures.{estimator, jitterInto}
+use Rattle.siwolkert.proofs.siwolkert_jitter_update.Statement.{statement}
+use Rattle.siwolkert.proofs.siwolkert_jitter_update.Tie as tie
 
 returns : tie.Need-returns
 unfolding jitterInto updateOf
@@ -31,5 +31,5 @@ returns-2 c =
     let r = ap (λ (u : JitterUpdate). u .refusal) e in
     (r, no _ (ne-eqb _ 0 (λ z. c .if1 .left (r ∙ z))) refl)
 
-pub mmp-jitter-update-spec : {M : Type 1} → statement M
-mmp-jitter-update-spec = tie.close (tie.spec (λ c κs. search needs) returns returns-2)
+pub siwolkert-jitter-update-spec : {M : Type 1} → statement M
+siwolkert-jitter-update-spec = tie.close (tie.spec (λ c κs. search needs) returns returns-2)
