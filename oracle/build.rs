@@ -1,5 +1,6 @@
 //! Copies the commit's seven files, unchanged, and appends to a copy the module of access/ that reads and sets its private fields.
-//! The files come from FIPS_SRC, else from the folder `shared/docs/src` beside the repository.
+//! The files come from FIPS_SRC, else from the folder `shared/docs/src` beside the repository. Where they are found `cfg(upstream)` is set; where they
+//! are not, the library is built without what needs them, and each program says what it lacks.
 
 use std::path::{Path, PathBuf};
 use std::{env, fs, process};
@@ -44,12 +45,6 @@ pub mod mmp {
 }
 "#;
 
-fn fail(what: &str) -> ! {
-    eprintln!("oracle: {what}");
-    eprintln!("oracle: set FIPS_SRC to the folder that has core/src/proto/codec.rs of the commit");
-    process::exit(1);
-}
-
 fn source() -> PathBuf {
     println!("cargo::rerun-if-env-changed=FIPS_SRC");
     match env::var_os("FIPS_SRC") {
@@ -62,7 +57,8 @@ fn copy(from: &Path, access: &Path, to: &Path) {
     println!("cargo::rerun-if-changed={}", from.display());
     println!("cargo::rerun-if-changed={}", access.display());
     let Ok(mut text) = fs::read_to_string(from) else {
-        fail(&format!("cannot read {}", from.display()));
+        eprintln!("oracle: cannot read {}: FIPS_SRC has a part of the source only", from.display());
+        process::exit(1);
     };
     if access.exists() {
         text.push_str(&fs::read_to_string(access).expect("a file of access/ is readable"));
@@ -72,7 +68,13 @@ fn copy(from: &Path, access: &Path, to: &Path) {
 }
 
 fn main() {
+    println!("cargo::rustc-check-cfg=cfg(upstream)");
     let proto = source().join("core/src/proto");
+    println!("cargo::rerun-if-changed={}", proto.join(FILES[0]).display());
+    if !proto.join(FILES[0]).exists() {
+        return;
+    }
+    println!("cargo::rustc-cfg=upstream");
     let access = Path::new(env!("CARGO_MANIFEST_DIR")).join("access");
     let out = PathBuf::from(env::var_os("OUT_DIR").expect("cargo sets OUT_DIR"));
     for file in FILES {

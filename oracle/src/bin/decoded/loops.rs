@@ -1,5 +1,5 @@
-//! decoded CALL COUNT [LESS [SHORT]]: the loop over payloads whose length is read from memory in each turn, as crates/bench/src/decoded.rt. It is a program of its
-//! own: in one with `bench` each decoder has two callers, is then called and not inlined, and costs the commit two and a half times as much.
+//! The loop over payloads whose length is read from memory in each turn, as crates/bench/src/decoded.rt. It is a program of its own: in one with `bench` each
+//! decoder has two callers, is then called and not inlined, and costs the commit two and a half times as much.
 
 use std::env;
 
@@ -7,7 +7,7 @@ use oracle::proto::codec::Reader;
 use oracle::proto::mmp::wire::{PathMtuNotification, ReceiverReport, SenderReport};
 use oracle::proto::Error;
 
-#[path = "bench/sums.rs"]
+#[path = "../bench/loops/sums.rs"]
 mod sums;
 
 use sums::{next, receiver_sum, sender_sum, START};
@@ -72,7 +72,7 @@ fn sum(call: u64, count: u64, short: u64) -> u64 {
     sum
 }
 
-fn main() {
+pub fn run() {
     let words: Vec<u64> = env::args().skip(1).map(|word| word.parse().expect("a number")).collect();
     let word = |i: usize| words.get(i).copied().unwrap_or(0);
     println!("{}", sum(word(0), word(1), word(3)).wrapping_sub(sum(word(0), word(2), word(3))));

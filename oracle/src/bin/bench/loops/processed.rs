@@ -1,7 +1,7 @@
 //! The loop over a metrics record and a report.
 
-use crate::sums::{next, receiver_sum, START};
-use crate::table::{held, is_set, option_sum, place, Numbers};
+use super::sums::{next, receiver_sum, START};
+use super::table::{held, is_set, option_sum, place, Numbers};
 use oracle::cases::{ewma, srtt};
 use oracle::proto::mmp::metrics::oracle_access::{fields, state, Fields};
 use oracle::proto::mmp::metrics::{MmpMetrics, RrLog};

@@ -1,6 +1,6 @@
 //! The loop over a sender's record: eight peers' records in memory, of which the random number picks one, and the call on it.
 
-use crate::sums::{next, sender_sum, START};
+use super::sums::{next, sender_sum, START};
 use oracle::proto::mmp::sender::oracle_access::fields;
 use oracle::proto::mmp::sender::SenderState;
 
