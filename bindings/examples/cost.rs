@@ -1,4 +1,4 @@
-//! One export in a loop, for counting the instructions of a call across the boundary: `cost CALL TURNS`, CALL `none` being the loop alone. `measure` runs it.
+//! One call in a loop, for counting its instructions across the boundary: `cost CALL TURNS`, CALL `none` being the loop alone. `tools/measure boundary` runs it.
 
 use siwolkert::{check_receiver_payload, compute_etx, jitter_update, SenderState};
 use std::hint::black_box;
