@@ -299,6 +299,11 @@ impl SenderState {
     }
 }
 
+/// README's program in Rust, run as a doc-test; tools/readme-code asks that it is there.
+#[cfg(doctest)]
+#[doc = include_str!("../../README.md")]
+pub struct Readme;
+
 // The layout that the archive was built for: size and each offset.
 const _: () = {
     use std::mem::{align_of, offset_of, size_of};
