@@ -1,74 +1,96 @@
-// The table: a heading, and a line for a minute.
-use crate::life::Life;
+// Words and numbers on standard output. Places are cut, not rounded: 6.9999999 is below 7, and so it is shown.
 use libc::STDOUT_FILENO;
 use numbers::signs::bits32;
-use numbers::signs::unsigned;
 
-pub fn heading() {
-    io::write_all(
-        STDOUT_FILENO,
-        b"minute   SRTT us   average us   RTTVAR us   jitter us      ETX   whole-ms smoother\n",
-    );
+pub fn text(words: &[u8]) {
+    io::write_all(STDOUT_FILENO, words);
 }
 
-fn spaces(n: u64, bound: u64) {
-    if n < bound {
-        io::write_all(STDOUT_FILENO, b" ");
-    }
-}
-
-// A number in a column of eight.
-fn number(n: u64) {
-    spaces(n, 10000000);
-    spaces(n, 1000000);
-    spaces(n, 100000);
-    spaces(n, 10000);
-    spaces(n, 1000);
-    spaces(n, 100);
-    spaces(n, 10);
+pub fn decimal(n: u64) {
     io::print_decimal(STDOUT_FILENO, n);
 }
 
-fn gap() {
-    io::write_all(STDOUT_FILENO, b"   ");
+fn space_if(wanted: bool) {
+    if wanted {
+        text(b" ");
+    }
 }
 
-// A float to two places.
-fn hundredths(x: f64) {
-    let n = bits32(floats::to_i32(x * 100.0 + 0.5)) as u64;
-    let left = n % 100;
-    io::print_decimal(STDOUT_FILENO, n / 100);
-    io::write_all(STDOUT_FILENO, b".");
-    io::print_decimal(STDOUT_FILENO, left / 10);
-    io::print_decimal(STDOUT_FILENO, left % 10);
+// A number in a column of a width, up to 8.
+pub fn number(n: u64, width: u64) {
+    space_if((width > 7) & (n < 10000000));
+    space_if((width > 6) & (n < 1000000));
+    space_if((width > 5) & (n < 100000));
+    space_if((width > 4) & (n < 10000));
+    space_if((width > 3) & (n < 1000));
+    space_if((width > 2) & (n < 100));
+    space_if((width > 1) & (n < 10));
+    decimal(n);
 }
 
-// The same in a column of eight.
-fn places(x: f64) {
-    let n = bits32(floats::to_i32(x)) as u64;
-    spaces(n, 10000);
-    spaces(n, 1000);
-    spaces(n, 100);
-    spaces(n, 10);
-    hundredths(x);
+fn zero_if(wanted: bool) {
+    if wanted {
+        text(b"0");
+    }
 }
 
-pub fn line(life: Life, minute: u64) {
-    let metrics = life.metrics;
-    let srtt = metrics.srtt;
-    let report = life.last;
-    number(minute);
-    gap();
-    number(unsigned(srtt.srtt_us));
-    gap();
-    places(life.average_us);
-    gap();
-    number(unsigned(srtt.rttvar_us));
-    gap();
-    number(report.jitter as u64);
-    gap();
-    places(metrics.etx);
-    gap();
-    number(life.whole_ms);
-    io::write_all(STDOUT_FILENO, b"\n");
+fn two_digits(n: u64) {
+    zero_if(n < 10);
+    decimal(n);
+}
+
+fn three_digits(n: u64) {
+    zero_if(n < 100);
+    two_digits(n);
+}
+
+fn six_digits(n: u64) {
+    zero_if(n < 100000);
+    zero_if(n < 10000);
+    zero_if(n < 1000);
+    three_digits(n);
+}
+
+// The whole part of a number from 0 on, below 2^31, and what is left.
+fn whole(x: f64) -> u64 {
+    bits32(floats::to_i32(x)) as u64
+}
+
+fn fraction(x: f64) -> f64 {
+    x - floats::nearest_u64_to_f64(whole(x))
+}
+
+// To two, three and six places.
+pub fn hundredths(x: f64) {
+    decimal(whole(x));
+    text(b".");
+    two_digits(whole(100.0 * fraction(x)));
+}
+
+pub fn thousandths(x: f64, width: u64) {
+    number(whole(x), width);
+    text(b".");
+    three_digits(whole(1000.0 * fraction(x)));
+}
+
+fn millionths(x: f64) {
+    decimal(whole(x));
+    text(b".");
+    six_digits(whole(1000000.0 * fraction(x)));
+}
+
+// A number with its sign, where it has one.
+pub fn signed(x: f64) {
+    if x < 0.0 {
+        text(b"-");
+        millionths(0.0 - x);
+    } else {
+        millionths(x);
+    }
+}
+
+// The same in a column: a place is left for the sign.
+pub fn difference(x: f64) {
+    space_if(x >= 0.0);
+    signed(x);
 }

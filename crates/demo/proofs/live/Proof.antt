@@ -6,10 +6,10 @@ use Rattle.demo.proofs.live.Statement.{statement}
 use Rattle.demo.proofs.live.Tie as tie
 
 abbrev Inv-loop : tie.InvT-loop
-Inv-loop minutes times₀ delays₀ life₀ left₀ times delays life left = (length times ≡ length times₀) × (length delays ≡ length delays₀)
+Inv-loop minutes every times₀ delays₀ life₀ left₀ times delays life left = (length times ≡ length times₀) × (length delays ≡ length delays₀)
 
 abbrev μ-loop : tie.MeasureT-loop
-μ-loop minutes times₀ delays₀ life₀ left₀ times delays life left = left
+μ-loop minutes every times₀ delays₀ life₀ left₀ times delays life left = left
 
 pub live-spec : {M : Type 1} → statement M
 live-spec =
@@ -18,7 +18,6 @@ live-spec =
     Inv-loop
     μ-loop
     (λ c κs. search needs)
-    (λ c. search needs)
     (λ c. search needs)
     (λ c. search needs)
     (λ c κs. search needs)
