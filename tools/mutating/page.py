@@ -5,12 +5,13 @@ from .witness import CASES
 
 HEAD = """# Wrong answers
 
-Made by `tools/mutations`. For each public function of the libraries: changes that keep the code's shape, in the function or in what it calls of its own crate, each with an input on which the changed function answers otherwise. Both were run there, on the toolchain's
-interpreter; then the change was put to the prover, and its function was refused. A change for which none of the {cases} inputs that were tried shows a difference is not counted and stands nowhere here, nor does one whose run is undefined there, or that answers as another does on
-all of them.
+Made by `tools/mutations`: {count} wrong answers of {functions} functions, {few}, all refused by the prover.
 
-{count} wrong answers of {functions} functions, all refused; {few}. A change marked *written* was written by hand (tools/mutating/written), where drawing found too few; the others were drawn, by the seed that the section names. Fields of an input that are not named are 0, no or none; of an
-answer the part is shown that differs.
+A wrong answer is a change that keeps the code's shape, in a public function of a library or in what it calls of its own crate, with an input on which the changed function answers otherwise. Both functions were run on that input, on the toolchain's
+interpreter; then the change was put to the prover, which refused it. Not counted are changes that show no difference on any of the {cases} inputs tried, changes whose run is undefined there, and changes that answer like another on all of them.
+
+A change marked *written* was written by hand (tools/mutating/written), where drawing found too few; the others were drawn by the seed that the section names. Fields of an input that are not named are 0, no or none. Of an answer only the part that
+differs is shown.
 """
 
 
@@ -39,10 +40,10 @@ def name(function):
 
 def sections(path):
     try:
-        text = open(path).read()
+        page = open(path).read()
     except FileNotFoundError:
         return {}
-    return {part.split("\n", 1)[0]: part.split("\n", 1)[1].strip() for part in re.split(r"^## ", text, flags=re.M)[1:]}
+    return {part.split("\n", 1)[0]: part.split("\n", 1)[1].strip() for part in re.split(r"^## ", page, flags=re.M)[1:]}
 
 
 def section(rows, seed, each):
@@ -55,17 +56,22 @@ def section(rows, seed, each):
     return "\n".join(lines)
 
 
-def write(path, made, crates):
-    """The page with the sections made, in the order of the crates."""
+def text(path, made, crates):
+    """The whole page: what comes before the sections, the sections made, and the others as they stand, in the order of the crates."""
     parts = {**sections(path), **made}
     parts = {crate: parts[crate] for crate in crates if crate in parts}
     rows = [line for part in parts.values() for line in part.split("\n") if line.startswith("| `")]
     wrong = [line for line in rows if "change found:" not in line]
     functions = sum(len({line.split(" | ")[0] for line in part.split("\n") if line.startswith("| `")}) for part in parts.values())
     few = len(rows) - len(wrong)
-    said = "of each two" if not few else f"of {few} functions fewer than two, which their rows say"
-    text = HEAD.format(cases=CASES, count=len(wrong), functions=functions, few=said)
-    open(path, "w").write(text + "".join(f"\n## {crate}\n\n{part}\n" for crate, part in parts.items()))
+    said = "two of each" if not few else f"fewer than two of {few} of them, as their rows say"
+    head = HEAD.format(cases=CASES, count=len(wrong), functions=functions, few=said)
+    return head + "".join(f"\n## {crate}\n\n{part}\n" for crate, part in parts.items())
+
+
+def write(path, made, crates):
+    whole = text(path, made, crates)
+    open(path, "w").write(whole)
 
 
 def missing(path, sources):
