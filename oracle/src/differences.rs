@@ -1,4 +1,4 @@
-//! The points at which the commit, the RFCs and the rules part, each run on its smallest input, and whether docs/DIFFERENCES.md has them as they were run.
+//! The points at which the commit, the RFCs and the rules differ, each run on its smallest input, and whether docs/DIFFERENCES.md has them as they were run.
 
 pub mod bursts;
 pub mod figures;
@@ -75,7 +75,7 @@ impl Points {
         self.rows.push(vec![Some(name.into()), Some(input.into()), Some(answer), here]);
     }
 
-    /// A point where an RFC parts from the commit and the port: what is exact, and what is answered. The calls that show it are compared too.
+    /// A point where an RFC differs from the commit and the port: what is exact, and what is answered. The calls that show it are compared too.
     pub fn parted(&mut self, point: &str, input: &str, exact: String, answered: String, calls: Vec<Case>) {
         self.rows
             .push([point.into(), input.into(), minus(&exact), minus(&answered)].map(Some).to_vec());
@@ -83,7 +83,7 @@ impl Points {
     }
 }
 
-/// Whether a line of the document has the row's cells. A cell tells what the commit does, and then, where it differs, what it does unchecked.
+/// Whether a line of the document has the row's cells. A cell says what the commit does, and then, where it differs, what it does unchecked.
 fn stands(line: &str, row: &Row, checked: bool) -> bool {
     let mut cells = line.trim_matches('|').split('|').map(str::trim);
     row.iter().all(|cell| {

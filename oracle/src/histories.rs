@@ -1,4 +1,4 @@
-//! Histories of two ends beside the exact averages, and the same with stale reports struck out. What runs is the commit's own Rust behind the refusals.
+//! Histories of two ends beside the exact averages, and the same with stale reports struck out. What runs is the commit's own Rust, after the refusals.
 
 pub mod climb;
 pub mod exact;
@@ -214,7 +214,7 @@ fn with_repeats(rng: &mut Rng, history: &mut History) {
     }
 }
 
-/// Runs so many histories of a link, a tenth as many lists of samples, and the lists that are looked for; prints the worst of each. A figure out of its
+/// Runs so many histories of a link, a tenth as many lists of samples, and the lists found by a search; prints the worst of each. A figure out of its
 /// bound, or an answer that a stale report moved, ends the run.
 pub fn run(seed: u64, count: usize) {
     let rng = &mut Rng::new(seed);

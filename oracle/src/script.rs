@@ -58,7 +58,7 @@ fn history(rng: &mut Rng) -> Vec<Case> {
     }
 }
 
-/// How many histories of a link stand behind the boundaries.
+/// How many histories of a link follow the boundaries.
 const LINKS: usize = 4;
 
 /// The list that is stored: every boundary, some histories of a link, and every way to be malformed.

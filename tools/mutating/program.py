@@ -3,7 +3,7 @@ import struct
 
 from .inputs import KINDS, SIGNED, pattern
 
-# a lent buffer is shorter than its room, so that the pad is behind it
+# a lent buffer is shorter than its room, so that the pad comes after it
 BYTES, SLOTS = 88, 9
 
 PRELUDE = """
@@ -78,7 +78,7 @@ def taken(inner):
 
 
 class Program:
-    """`pad` stands in the room behind a lent buffer, where no answer may look."""
+    """`pad` stands in the room after a lent buffer, where no answer may look."""
 
     def __init__(self, sources, function, pad=0):
         self.sources, self.function, self.made, self.pad = sources, function, {}, pad
@@ -254,7 +254,7 @@ class Program:
         return said
 
     def past_end(self, values, line):
-        """Whether a lent buffer was written behind its end."""
+        """Whether a lent buffer was written past its end."""
         said = self.answer(line)
         lent = {name: value for (name, kind), value in zip(self.function.params, values) if kind.startswith("&mut [")}
         return any(int(at[1:-1]) >= len(lent[name]) for name in lent for at in said[name])

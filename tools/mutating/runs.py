@@ -39,7 +39,7 @@ def once(tree, text, cases):
 
 
 def run(tree, text, cases, most=12):
-    """All cases. The interpreter stops after so many steps, and is run again for the rest; behind a case that is undefined too, at most so often."""
+    """All cases. The interpreter stops after a number of steps, and is run again for the rest. It also stops at a case that is undefined, and is run again after that, at most `most` times."""
     answers = []
     while len(answers) < len(cases):
         became, lines = once(tree, text, cases[len(answers) :])

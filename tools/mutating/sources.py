@@ -22,7 +22,7 @@ class Function:
 
 
 def libraries(root):
-    """Every library of crates.txt, what stands below first."""
+    """Every library of crates.txt, lowest layer first."""
     names = [line.split(":")[0] for line in open(f"{root}/crates.txt") if ":" in line and not line.startswith("#")]
     return [name for name in names if os.path.exists(f"{root}/crates/{name}/src/lib.rt")]
 

@@ -77,7 +77,7 @@ class Bench:
             if not ran.program:
                 return "no program"
             differing = [i for i, line in enumerate(ran.lines) if line is not None and line != right[i]]
-            # an index past a buffer's end is undefined, and the interpreter does not see it: the answer may not hang on what stands there
+            # an index past a buffer's end is undefined, and the interpreter does not see it: the answer may not depend on what stands there
             for i in sorted(differing, key=lambda i: len(said(i)))[:4]:
                 again = runs.run(self.tree, self.program(change.of, 77).text, [cases[i]])
                 if again.lines == [ran.lines[i]] and not program.past_end(given[i], ran.lines[i]):

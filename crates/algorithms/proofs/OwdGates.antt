@@ -1,4 +1,4 @@
--- What the gate of a delay window's call tells: where it gave 0 the state and both buffers are in order, and the answer is that of the call; else all is as given.
+-- What the questions of a delay window's call show: where they gave 0 the state and both buffers are in order, and the answer is that of the call; else all is as given.
 use mathlib.Core.Path.{_≡_, refl}
 use Prim.Native.Nat.{ℕ}
 use mathlib.Core.Bool.{true, and-eq-true-iff}

@@ -145,7 +145,7 @@ module _ (s : OwdTrendDetector) (ts : List ℕ) (ds : List ℤ) (h : Lent s ts d
   samples-both : samplesOk (window s ts ds) ≡ (samplesOk (stretch (s .first) stop ts ds) && samplesOk (stretch 0 rest ts ds))
   samples-both = ap samplesOk (sym in-two) ∙ samples-append (stretch (s .first) stop ts ds) (stretch 0 rest ts ds)
 
-  -- where question 5 is answered yes of the window, it is of both stretches
+  -- where the window answers yes to question 5, both stretches do
   pub samples-window : samplesOk (window s ts ds) ≡ true → (samplesOk (stretch (s .first) stop ts ds) ≡ true) × (samplesOk (stretch 0 rest ts ds) ≡ true)
   samples-window ok = and-eq-true-iff (samplesOk (stretch (s .first) stop ts ds)) (samplesOk (stretch 0 rest ts ds)) .0 (sym samples-both ∙ ok)
 

@@ -1,4 +1,4 @@
--- The trend's answer where the gate of questions 1 and 4 let it through, and where it refused.
+-- The trend's answer where questions 1 and 4 let it through, and where they refused.
 use mathlib.Core.Path.{_≡_, refl}
 use Prim.Native.Nat.{ℕ}
 use mathlib.Core.Bool.{Bool, true, false, cond}

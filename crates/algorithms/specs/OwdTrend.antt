@@ -45,7 +45,7 @@ product f a g b p = mul binary64 (sub binary64 (f p) a) (sub binary64 (g p) b)
 unfoldable pub slope : Float → Float → ℤ
 slope num den = cond (lt den epsilon) (pos 0) (toSigned 31 (mul binary64 (div binary64 num den) thousand-float))
 
--- the slope about the means that the sums give; 0 of under two pairs
+-- the slope about the means that the sums give; 0 for fewer than two pairs
 unfoldable pub trendFrom : Float → Float → List Pair → ℤ
 trendFrom sum-x sum-y ps =
     let x = mean sum-x ps in

@@ -89,6 +89,6 @@ copied s bit counter = cond (ltb (s .«highest_counter_for_spin») counter) (tak
 unfoldable pub observed : SpinBitState → Bool → ℕ → ℕ → SpinObserved
 observed s bit counter now = cond (s .«is_initiator») (reflected s bit now) (copied s bit counter)
 
--- the same behind the questions: a refusal has no round trip, and the state as given
+-- the same after the questions: a refusal has no round trip, and the state as given
 unfoldable pub rxObserveOf : SpinBitState → Bool → ℕ → ℕ → SpinObserved
 rxObserveOf s bit counter now = cond (eqb (observeRefusal s now) 0) (observed s bit counter now) (unmoved (observeRefusal s now) s)

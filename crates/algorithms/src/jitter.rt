@@ -10,7 +10,7 @@ use numbers::signs::unsigned_abs;
 use refusals::answer::AnswerU32;
 use refusals::questions::Questions;
 
-// The greatest scaled jitter, that of |D| = 2^31 for ever.
+// The greatest scaled jitter, where steps of |D| = 2^31 come to rest.
 pub const MAX_JITTER_Q4: i64 = 1 << 35;
 
 // Smoothed jitter from the differences of transit times between consecutive frames.

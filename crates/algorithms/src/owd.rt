@@ -267,7 +267,7 @@ impl OwdTrendDetector {
         }
     }
 
-    // The delay trend as a slope in µs per second: Σ(x − x̄)(y − ȳ) / Σ(x − x̄)², times 1000. 0 of under two pairs, or where all came at one time.
+    // The delay trend as a slope in µs per second: Σ(x − x̄)(y − ȳ) / Σ(x − x̄)², times 1000. 0 for fewer than two pairs, or where all came at one time.
     pub fn trend_us_per_sec(self, times: &[u32], delays: &[i64]) -> AnswerI32
         ensures { λ r. ⌜ r ≡ trendAnswer self (now (times .entry)) (now (delays .entry)) ⌝ }
     {

@@ -10,7 +10,7 @@ ghost use Rattle.algorithms.specs.Owd.{samplesOk};
 ghost use Rattle.algorithms.specs.OwdTrend.{time, delay, product, plus};
 ghost use Rattle.algorithms.specs.Passes.{stretch, Summed};
 
-// The sums of the times and of the delays, and whether each delay is in range: from one that is not on, the sums are unfinished.
+// The sums of the times and of the delays, and whether each delay is in range: from the first that is not, the sums are unfinished.
 pub(crate) struct Sums {
     pub(crate) x: f64,
     pub(crate) y: f64,

@@ -1,4 +1,4 @@
-// The loop over payloads whose length nobody knows where the call is compiled: each turn reads it from memory. So the length test is counted, and an
+// The loop over payloads whose length the compiler does not know: each turn reads it from memory. So the length test is counted, and an
 // answer's refusal is asked for, as a caller would.
 use crate::calls::Progress;
 use crate::calls::next;
@@ -104,7 +104,7 @@ fn called(arm: u64, payload: &[u8], pos: usize) -> u64 {
     }
 }
 
-// Hands a length on within the table, so that no length is known.
+// Hands a length on within the table, so that the compiler knows no length.
 fn handed_on(lengths: &mut [usize], from: usize, to: usize) -> usize {
     if from < lengths.len() {
         let n = lengths[from];

@@ -1,5 +1,5 @@
 // One turn of the loop over a figure. Each turn draws a random number, stores a part of it in a table of numbers and a pair of it in the windows, and makes
-// the call on a state from the table: so no state's range is known where the call is compiled.
+// the call on a state from the table: so the compiler knows no state's range.
 use crate::calls::Progress;
 use crate::calls::next;
 use crate::calls::picked;

@@ -1,6 +1,6 @@
 // Runs a call of `wire`, `algorithms` or a record many times, and writes a checksum of what it answered. Arguments: the call's number, as in
 // docs/REPLAY.md, how often, a count of turns whose checksum is taken off again (0), and by how many bytes the payloads of the second loop of decoders are shorter
-// than 67 (0). Calls 0, 100, 300, 400, 500 and 600 are the loops alone. The decoders, 202, 204 and 207, know the payload's length where they are compiled, and as 1202, 1204 and 1207 do not. The trend, 334, is
+// than 67 (0). Calls 0, 100, 300, 400, 500 and 600 are the loops alone. The decoders, 202, 204 and 207, are compiled with the payload's length known, and as 1202, 1204 and 1207 without it. The trend, 334, is
 // over 32 pairs, and as 1334 over 256, the most that a window holds; a frame, 504, is sampled, and as 1504 not; a report processed, 603, is fresh, and as 1603 late. oracle/src/bin/bench is
 // the same program over the commit's Rust.
 mod calls;

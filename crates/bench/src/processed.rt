@@ -43,7 +43,7 @@ fn row(x: u64) -> usize {
 }
 
 // A row that keeps the rule: the reports seen, and the five kinds that they are the sum of, each below 2^35. A call reads a row that the
-// random number picks anew, so nothing is known of the six where it is compiled.
+// random number picks anew, so the compiler knows nothing of the six.
 fn store_tallies(t: &mut [u64], from: usize, x: u64) {
     let stale = x >> 29;
     let no_echo = x >> 30;

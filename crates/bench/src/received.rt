@@ -54,7 +54,7 @@ fn reference_sum(owd_ref: OwdReference) -> u64 {
     }
 }
 
-// The counter that is due: above every highest counter.
+// The expected counter: above every highest counter.
 fn expected(s: &[u64], from: usize) -> u64 {
     at(s, from, 8) | 68719476736
 }

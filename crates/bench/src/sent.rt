@@ -20,7 +20,7 @@ fn state_sum(r: SenderState) -> u64 {
     counts ^ start ^ wide(words) ^ times ^ flag(r.interval_has_data) ^ flag(r.has_last_report)
 }
 
-// A frame's size, of which nobody knows that it is in range: it is 2^32 once in 2^32 turns.
+// A frame's size, which the compiler cannot know to be in range: it is 2^32 once in 2^32 turns.
 fn size_of(x: u64) -> usize {
     (x % 4294967297) as usize
 }

@@ -1,5 +1,5 @@
-// A record's fields as they stand in memory: numbers, or floats, one after the other from a place that the random number picks. What is read is known to
-// nobody where a call is compiled, so every test of it is made.
+// A record's fields as they stand in memory: numbers, or floats, one after the other from a place that the random number picks. The compiler knows nothing
+// of what is read, so it keeps every test of it.
 use crate::calls::picked;
 use crate::calls::u32_of;
 use refusals::option::OptionU32;

@@ -22,7 +22,7 @@ pub fn left_at(s: &[u8], at: usize) -> usize
     0
 }
 
-// A field that lies in the slice whole, as whoever calls has shown.
+// A field that lies in the slice whole, as the caller has shown.
 pub(crate) fn u16_in(s: &[u8], at: usize) -> u16
     requires { ⌜ at + 2 ≤ length (now s) ⌝ }
     ensures { λ r. ⌜ r ≡ leAt (now (s .entry)) at 2 ⌝ }

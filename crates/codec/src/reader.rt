@@ -233,7 +233,7 @@ pub fn read_bytes(s: &[u8], at: Place, n: usize) -> ReadBytes
     }
 }
 
-// The bytes as they stand, of which whoever calls has shown that they are there.
+// The bytes as they stand; the caller has shown that they are there.
 fn array_2(s: &[u8], at: usize) -> [u8; 2]
     requires { ⌜ at + 2 ≤ length (now s) ⌝ }
     ensures { λ r. ⌜ r ≡ take 2 (drop at (now (s .entry))) ⌝ }

@@ -1,5 +1,5 @@
 // The value of a field from its bytes, the least significant first: one expression for each width, and the only place where a field is put together. They are
-// total; whoever has asked for the length hands in the bytes.
+// total; the caller tests the length and hands in the bytes.
 ghost use mathlib.Core.Path.{_≡_};
 ghost use mathlib.Core.List.{[], _∷_};
 ghost use mir.Syntax.{w32};

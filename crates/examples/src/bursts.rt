@@ -79,7 +79,7 @@ pub fn long_gap_begins() {
     number(b"a gap of 65537: lost", lost_at(t, 65538), 65537);
 }
 
-// And here it extends a burst of 1: counter 3 is due.
+// And here it extends a burst of 1: counter 3 is expected.
 pub fn long_gap_extends() {
     let t = after(after(GapTracker::new(), 0), 2);
     number(
@@ -110,7 +110,7 @@ pub fn long_gap_extends() {
     number(b"1 and a gap of 65537: lost", lost_at(t, 65540), 65537);
 }
 
-// The greatest gap of all, in a burst of 1: counter 0 is due, and the last one comes.
+// The greatest gap of all, in a burst of 1: counter 0 is expected, and the last one comes.
 pub fn longest_gap() {
     let expected_next = OptionU64::Some(0);
     let t = GapTracker {

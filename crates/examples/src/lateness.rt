@@ -7,7 +7,7 @@ use gaps::lost_before;
 use receiver::ReceiverState;
 use refusals::option::OptionU64;
 
-// A tracker of a link without bursts at which this counter is due.
+// A tracker of a link without bursts that expects this counter.
 fn due(counter: u64) -> GapTracker {
     let expected_next = OptionU64::Some(counter);
     GapTracker {
@@ -68,7 +68,7 @@ pub fn four_cases() {
     number(b"by", frames_of(due(6), 0), 6);
 }
 
-// The counter that is due saturates.
+// The expected counter saturates.
 pub fn last_counter() {
     number(
         b"2^64 - 1 again: in sequence",
@@ -105,7 +105,7 @@ fn lateness(s: ReceiverState) -> u64 {
     s.interval_max_lateness().value
 }
 
-// Counters 9, 5, 7: 10 is due, and the latest comes behind by 5.
+// Counters 9, 5, 7: 10 is expected, and the latest comes behind by 5.
 pub fn greatest() {
     let mut times = [0u32; 2];
     let mut delays = [0i64; 2];
@@ -126,7 +126,7 @@ pub fn greatest() {
     number(b"and reorders", next.cumulative_reorder_count, 3);
 }
 
-// A rekey at 1000 zeroes it, and the first frame behind it is first; then frames in grace.
+// A rekey at 1000 zeroes it, and the first frame after it is first; then frames in grace.
 pub fn rekey() {
     let mut times = [0u32; 2];
     let mut delays = [0i64; 2];

@@ -53,7 +53,7 @@ pub fn is_stale(kept: Counters, rr: ReceiverReport) -> bool
 
 // --- Round trip ---
 
-// What a report's echo tells of the round trip.
+// What a report's echo says of the round trip.
 pub enum RoundTrip {
     // The report carried no timestamp echo.
     NoEcho,
@@ -83,7 +83,7 @@ pub fn round_trip(rr: ReceiverReport, our_timestamp_ms: u32) -> RoundTrip
     RoundTrip::Sample((ours - send_done_ms) as u32)
 }
 
-// The smoothed round trip in milliseconds, whether or not one has begun it.
+// The smoothed round trip in milliseconds, whether or not there has been one.
 pub fn smoothed_ms_unchecked(srtt: SrttEstimator) -> f64
     ensures { λ r. ⌜ r ≡ millisecondsOf (srtt .«srtt_us») ⌝ }
 {
@@ -121,7 +121,7 @@ pub fn tallies_ok(
 
 // --- Delivery ---
 
-// The packets that came of those that were sent, from 0 to 1. A span of 0 is left out before.
+// The packets that came of those that were sent, from 0 to 1. The caller leaves a span of 0 out.
 pub fn delivery_ratio_unchecked(packets: u64, span: u64) -> f64
     ensures { λ r. ⌜ r ≡ deliveryRatio packets span ⌝ }
 {

@@ -15,7 +15,7 @@ use lib.Ieee.Order.{drop, kept, round-mono}
 use lib.Ieee.Scale.{grid, overflow, finite, round-val, round-under}
 use Rattle.floats.proofs.At.{At, Sign, sign-of, value→at, same-size, le-at}
 
--- a number of units that a format holds: q digits and j zeros behind them
+-- a number of units that a format holds: q digits and j zeros after them
 pub record Held (f : Format) (g : ℕ) : Type 0 where
   pub q : ℕ
   pub j : ℕ

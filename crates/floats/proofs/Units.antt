@@ -1,4 +1,4 @@
--- A value that a format holds is a held number of the format's units, and only one value that fits is of a given size and sign.
+-- A value that a format holds is a held number of the format's units, and only one value of a given size and sign fits.
 use mathlib.Core.Path.{_≡_, refl, sym, ap, _∙_, subst}
 use mathlib.Core.Logic.{inl, inr}
 use Prim.Native.Nat.{ℕ, zero, suc, _+_, _-_, _*_, _/_, _%_, _^_, _≤_, _<_}

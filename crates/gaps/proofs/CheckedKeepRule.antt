@@ -1,4 +1,4 @@
--- Each call behind its questions ends within a tracker's rule.
+-- Each call that asks its questions ends within a tracker's rule.
 use mathlib.Core.Path.{_≡_, refl}
 use mathlib.Core.Bool.{true}
 use mathlib.Core.List.{[], _∷_}

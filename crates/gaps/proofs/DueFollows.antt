@@ -1,4 +1,4 @@
--- The counter that is due is one above the highest that came, as far as 64 bits go, whatever order they came in.
+-- The expected counter is one above the highest that came, saturating at 64 bits, whatever order they came in.
 use mathlib.Core.Path.{_≡_, refl}
 use mathlib.Core.Bool.{Bool, true, false, cond}
 use Prim.Native.Nat.{ℕ, _+_, _≤_, _<_, min, max}

@@ -1,4 +1,4 @@
--- The rule is kept, the counter that is due follows the highest, and the mean burst is the Rust's.
+-- The rule is kept, the expected counter follows the highest, and the mean burst is the Rust's.
 pub mod RuleKept
 pub mod DueFollows
 pub mod MeanBurst

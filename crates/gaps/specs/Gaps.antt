@@ -11,11 +11,11 @@ use Rattle.gaps.specs.declared.Arrival.the-variants.{First, InSequence, 
 use Rattle.gaps.specs.declared.GapTracker.{GapTracker}
 use Rattle.gaps.specs.declared.Observed.{Observed}
 
--- at which a burst's length stops
+-- where a burst's length stops
 abbrev pub maxLength : ℕ
 maxLength = 2 ^ 16 - 1
 
--- at which a counter that is due saturates
+-- at which the expected counter saturates
 abbrev pub maxCounter : ℕ
 maxCounter = 2 ^ 64 - 1
 
@@ -55,7 +55,7 @@ beginsBurst t counter = not (t .«in_burst») && leb 1 (gapAt (t .«expected_nex
 abbrev pub burstsOk : GapTracker → ℕ → Bool
 burstsOk t counter = not (beginsBurst t counter) || counterOk 32 (t .«burst_count») 1
 
--- the counter that is due after a frame: one more, and after a late frame the one that was due
+-- the counter expected after a frame: one more, and after a late frame the one expected before
 unfoldable pub nextAfter : ℕ → ℕ → ℕ
 nextAfter expected counter = cond (leb expected counter) (min (counter + 1) maxCounter) expected
 
@@ -64,7 +64,7 @@ nextAfter expected counter = cond (leb expected counter) (min (counter + 1) maxC
 unfoldable pub arrivalAfter : ℕ → ℕ → Arrival
 arrivalAfter expected counter = cond (ltb expected counter) (Gap (counter - expected)) (cond (ltb counter expected) (Behind (expected - counter)) InSequence)
 
--- beside the counter that was due, if one was
+-- beside the expected counter, if there was one
 abbrev pub arrivalAt : OptionU64 → ℕ → Arrival
 arrivalAt None counter = First
 arrivalAt (Some expected) counter = arrivalAfter expected counter
@@ -77,7 +77,7 @@ lostBefore (Gap n) = n
 lostBefore (Behind n) = 0
 
 -- ---- a frame
--- this counter is due next
+-- this counter is expected next
 abbrev pub expecting : GapTracker → ℕ → GapTracker
 expecting t next =
     record {
@@ -131,7 +131,7 @@ gapCounted t gap =
 unfoldable pub gapObserved : GapTracker → ℕ → GapTracker
 gapObserved t gap = cond (eqb gap 0) (burstFinished t) (gapCounted t gap)
 
--- the tracker after a frame of this counter, beside the one that was due
+-- the tracker after a frame of this counter, beside the expected one
 abbrev pub trackedAfter : OptionU64 → GapTracker → ℕ → GapTracker
 trackedAfter None t counter = expecting t (min (counter + 1) maxCounter)
 trackedAfter (Some expected) t counter = expecting (gapObserved t (counter - expected)) (nextAfter expected counter)

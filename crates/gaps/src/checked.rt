@@ -1,4 +1,4 @@
-// The tracker's calls, each behind the questions that it has.
+// The tracker's calls, each after the questions that it has.
 
 ghost use mathlib.Core.Path.{_≡_};
 ghost use Rattle.gaps.specs.Checked.{refusalOf, observeOf, finishOf, takeOf};

@@ -33,14 +33,14 @@ pub struct GapTracker {
     pub total_burst_len: u64,
 }
 
-// Where a frame's counter stands beside the one that was due.
+// Where a frame's counter stands beside the expected one.
 pub enum Arrival {
-    // No frame came before, so none was due.
+    // No frame came before, so none was expected.
     First,
     InSequence,
     // So many frames are missing before it.
     Gap(u64),
-    // So far below: expected minus counter.
+    // That far below: expected minus counter.
     Behind(u64),
 }
 
@@ -69,7 +69,7 @@ fn gap_len(gap: u64) -> u16
     }
 }
 
-// The frames lost before one that came so: what the Rust's `observe` answers.
+// The frames lost before such an arrival: what the Rust's `observe` answers.
 pub fn lost_before(arrival: Arrival) -> u64
     ensures { λ r. ⌜ r ≡ lostBefore arrival ⌝ }
 {
@@ -81,7 +81,7 @@ pub fn lost_before(arrival: Arrival) -> u64
     }
 }
 
-// Where a counter stands beside the one that is due.
+// Where a counter stands beside the expected one.
 fn arrival_after(expected: u64, counter: u64) -> Arrival
     ensures { λ r. ⌜ r ≡ arrivalAfter expected counter ⌝ }
 {
@@ -94,7 +94,7 @@ fn arrival_after(expected: u64, counter: u64) -> Arrival
     Arrival::InSequence
 }
 
-// The counter that is due after this one, or the one that was due where the frame is late.
+// The counter expected after this one, or the one expected before where the frame is late.
 fn next_after(expected: u64, counter: u64) -> u64
     ensures { λ r. ⌜ r ≡ nextAfter expected counter ⌝ }
 {
@@ -105,7 +105,7 @@ fn next_after(expected: u64, counter: u64) -> u64
     }
 }
 
-// The frames missing before this counter, if one was due.
+// The frames missing before this counter, if one was expected.
 fn gap_at(expected_next: OptionU64, counter: u64) -> u64
     ensures { λ r. ⌜ r ≡ gapAt «expected_next» counter ⌝ }
 {
@@ -235,7 +235,7 @@ impl GapTracker {
         }
     }
 
-    // Process a received counter value. The first frame only says which counter is due next.
+    // Process a received counter value. The first frame only says which counter is expected next.
     pub fn observe_unchecked(self, counter: u64) -> Observed
         ensures { λ r. ⌜ r ≡ observed self counter ⌝ }
     {

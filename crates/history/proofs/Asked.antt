@@ -1,4 +1,4 @@
--- Which number a call's refusal is, from the questions in their order: behind the rule, those that its own arguments answer, then those that the record answers.
+-- Which number a call's refusal is, from the questions in their order: the rule, then those that its own arguments answer, then those that the record answers.
 use mathlib.Core.Path.{_≡_, refl}
 use mathlib.Core.Logic.{_≢_}
 use mathlib.Core.Bool.{Bool, true, false, cond, not, _&&_, _||_}
@@ -72,7 +72,7 @@ own-first (q ∷ own) late = go (q .answer) (q .number) (own-first own late)
     go true m (Judged.by-record n z e) = Judged.by-record n z e
     go false m k = Judged.by-arguments
 
--- a refusal behind the rule's yes
+-- a refusal where the rule is kept
 pub record Lawful (p : Put) (n : ℕ) : Type 0 where
   pub not-by-rule : n ≢ 1
   pub as-asked : Judged p n

@@ -120,7 +120,7 @@ sampled-tied y s timestamp now h =
     go true = record { jitter = h .jitter; last = refl; grace = refl }
     go false = record { jitter = step-tied (s .«last_recv_ms») (s .«last_sender_timestamp») timestamp now (s .jitter) (y .differences) (h .jitter); last = refl; grace = refl }
 
--- frameOf behind its questions
+-- frameOf after its questions
 frame-tied : (y : Exact) (s : ReceiverState) (f : Frame) (sampled : Bool) → framing f sampled s .refusal ≡ 0 → Tied y s →
     Tied (exactBy (exact.eventOf (ReceiverCall.«record_frame» f sampled)) y) (framing f sampled s .state)
 unfolding frameOf withSample pushes echoIfSampled exact.differencesBy exact.lastBy exact.graceBy

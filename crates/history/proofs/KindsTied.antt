@@ -57,7 +57,7 @@ new-seen MetricsNew.default = refl
 pub new-counted : (n : MetricsNew) → Counted [] (newMetrics n)
 new-counted n = record { kinds = new-kinds n; seen = new-seen n }
 
--- a report that raises the kind that the list tells
+-- a report that raises the kind that the list gives
 raised-counted : (l : List MetricsCall) (m n : MmpMetrics) (rr : ReceiverReport) (ours now : ℕ) → Raised (kindAfter l rr ours) m n → Counted l m → Counted (MetricsCall.«process_receiver_report» rr ours now ∷ l) n
 unfolding kinds among processed
 raised-counted l m n rr ours now r h =

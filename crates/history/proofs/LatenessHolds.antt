@@ -42,7 +42,7 @@ kept-holds k h fits =
           (λ c x w e. let s = c .side in offered (c .call) (at s x) (at s w) (e s .receiver .lawful .rule) (e s .receiver .lateness .lateness));
     }
 
--- computed: of counters 9, 5 and 7, the latest call first, 10 was due for the last two; of a report between them and 9 once more, the last alone counts
+-- computed: of counters 9, 5 and 7, the latest call first, 10 was expected for the last two; of a report between them and 9 once more, the last alone counts
 came : ℕ → ReceiverCall
 came counter = ReceiverCall.«record_recv» (record { times = []; delays = []; counter = counter; timestamp = 0; bytes = 0; ce = false; now = 0 })
 

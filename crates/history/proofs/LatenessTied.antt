@@ -1,4 +1,4 @@
--- A receiver's greatest lateness is that of the frames which the calls on it brought since the last report or rekey, and the counter that is due follows the highest.
+-- A receiver's greatest lateness is that of the frames which the calls on it brought since the last report or rekey, and the expected counter follows the highest.
 use mathlib.Core.Path.{_≡_, refl, sym, ap, _∙_}
 use mathlib.Core.Bool.{Bool, true, false, cond, true≢false}
 use mathlib.Core.List.{List, [], _∷_, _++_}
@@ -52,7 +52,7 @@ raised-more : (o : OptionU64) (counter most : ℕ) (ns : List ℕ) → most ≡ 
 unfolding greatest
 raised-more o counter most ns e = let r = raised o counter most in let a = greatest-append (behind (late.dueIn o) counter) ns in omega arith
 
--- the counter that is due next follows the highest
+-- the counter expected next follows the highest
 due-next : (o : OptionU64) (h : late.Highest) (t : GapTracker) (counter : ℕ) → late.dueIn o ≡ late.dueAfter h →
     late.dueIn (gaps.trackedAfter o t counter .«expected_next») ≡ late.dueAfter (late.highestBy (late.arrived counter) h)
 due-next None late.no-frame t counter e = refl
@@ -62,7 +62,7 @@ due-next (Some expected) (late.highest n) t counter e =
     let same : expected ≡ min (n + 1) (2 ^ 64 - 1) = cc in
     ap late.due (ap (λ (m : ℕ). gaps.nextAfter m counter) same ∙ due-follows n counter)
 
--- a report leaves the counter that is due
+-- a report leaves the expected counter
 stats-due : (t : GapTracker) → statsOf t .tracker .«expected_next» ≡ t .«expected_next»
 unfolding statsOf gaps.burstFinished
 stats-due t = picked (λ (u : GapTracker). u .«expected_next» ≡ t .«expected_next») (t .«in_burst») (λ e. refl) (λ e. refl)

@@ -29,7 +29,7 @@ Says clause φ = (w : World) → ent (w .𝓤) (clause w) (fact (w .𝓤) φ)
 
 -- ---- a record is checked
 pub record Checked (status : ℕ) (s : SenderState) : Type 0 where
-  -- 0 exactly where `keeps_rule` tells yes
+  -- 0 exactly where `keeps_rule` is true
   pub rule : Answer.told (Fact.yes-or-no (eqb status 0)) ≡ senderStep (SenderCall.ask SenderQuestion.«keeps_rule») s .answer
   -- what an accessor refuses the record by
   pub refusal : status ≡ senderStep (SenderCall.ask SenderQuestion.«cumulative_packets_sent») s .refusal

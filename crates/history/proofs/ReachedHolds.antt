@@ -1,4 +1,4 @@
--- What holds of every record that a history from new reaches, by induction over it alone: no machine is in sight.
+-- What holds of every record that a history from new reaches, by induction over the history alone, without the machine of specs/Run.
 use mathlib.Core.Path.{_≡_, refl, ap}
 use Rattle.metrics.specs.declared.MmpMetrics.{MmpMetrics}
 use Rattle.metrics.proofs.QuestionsAnswered.{sum-seen}

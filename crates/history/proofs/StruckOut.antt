@@ -1,4 +1,4 @@
--- An end that has had fewer stale reports answers and moves as it would have otherwise, but for its count of reports two.
+-- An end that has had fewer stale reports answers and moves as it would have otherwise, but for two of its counts of reports.
 use mathlib.Core.Path.{_≡_, refl, ap}
 use mathlib.Core.Logic.{_≢_}
 use mathlib.Core.Bool.{true}

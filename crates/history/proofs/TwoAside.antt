@@ -87,7 +87,7 @@ module _ {d : ℕ} where
   unfolding refusalOf
   refusal-two m s v h = ap (λ (b : Bool). firstNo (question 1 b ∷ [])) (rule-two m s v h)
 
-  -- a counter that could hold one more could so with a lower count
+  -- a counter that could hold one more can do so with a lower count
   process-refusal-two : (m : MmpMetrics) (now s v : ℕ) → Low d s v (talliesIn m) → processRefusal m now ≢ 10 → processRefusal (withTwo m s v) now ≡ processRefusal m now
   unfolding processRefusal firstNo
   process-refusal-two m now s v h ne = rw (rule-two m s v h) (go (keepsRule m) (clockOk now) (counterOk 64 (m .«reports_seen») 1) refl ne)

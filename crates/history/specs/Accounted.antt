@@ -1,5 +1,5 @@
 -- What one accepted call does to the counts of a metrics record, whether histories reach the record or not: document 02, W-205, "every report accounted for". A report
--- raises reports seen and the one kind that its log entry tells; no other call raises or clears any. Definitions only.
+-- raises reports seen and the one kind that its log entry shows; no other call raises or clears any. Definitions only.
 use mathlib.Core.Path.{_≡_}
 use mathlib.Core.Bool.{cond}
 use Prim.Native.Nat.{ℕ, _+_}
@@ -34,7 +34,7 @@ pub record Raised (j : Kind) (m n : MmpMetrics) : Type 0 where
   pub kinds : (k : Kind) → tally k n ≡ tally k m + cond (eqb (place k) (place j)) 1 0
   pub seen : n .«reports_seen» ≡ m .«reports_seen» + 1
 
--- a report: the kind is the one that the log tells
+-- a report: the kind is the one that the log shows
 pub record Accounted (m n : MmpMetrics) (o : Outcome) : Type 0 where
   pub kind : Kind
   pub logged : Logged kind (o .log)

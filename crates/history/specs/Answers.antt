@@ -13,7 +13,7 @@ use Rattle.metrics.specs.declared.Outcome.{Outcome}
 use Rattle.metrics.specs.declared.RrCounters.{RrCounters}
 use Rattle.history.specs.Run.{Step}
 
--- what a question tells
+-- what a question answers
 pub data Fact : Type 0 where
   yes-or-no : Bool → Fact
   number : ℕ → Fact
@@ -35,7 +35,7 @@ pub data Answer : Type 0 where
   -- what became of a report processed
   outcome : Outcome → Answer
 
--- a question's refusal number and what it tells
+-- a question's refusal number and its answer
 pub record Told : Type 0 where
   pub refusal : ℕ
   pub fact : Fact

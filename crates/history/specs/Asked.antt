@@ -32,7 +32,7 @@ abbrev pub among : ℕ → List ℕ → Bool
 among n [] = false
 among n (m ∷ ms) = eqb n m || among n ms
 
--- what is put to a call: questions that its own arguments answer, and behind them the numbers of those that hang on the record
+-- what is put to a call: questions that its own arguments answer, and after them the numbers of those that depend on the record
 pub record Put : Type 0 where
   pub own : List Asked
   pub beside : List ℕ
@@ -40,8 +40,8 @@ pub record Put : Type 0 where
 abbrev pub put : List Asked → List ℕ → Put
 put own beside = record { own = own; beside = beside }
 
--- the refusal of a call on a record that keeps its rule: the first no of its own arguments, and 0 where there is none, "since a row of eleven yeses must be
--- answered"; or there is none, and the record answers one of its questions no
+-- the refusal of a call on a record that keeps its rule: the first question to which its own arguments answer no, and 0 where there is none, "since a row of eleven yeses must be
+-- answered"; or there is none, and the record answers no to one of its questions
 pub data Judged : Put → ℕ → Type 0 where
   by-arguments : {p : Put} → Judged p (firstOf (p .own))
   by-record : {p : Put} (n : ℕ) → firstOf (p .own) ≡ 0 → among n (p .beside) ≡ true → Judged p n
@@ -127,7 +127,7 @@ receiverTold ReceiverQuestion.«last_recv_ms» = ruleAlone
 receiverTold ReceiverQuestion.«ecn_ce_count» = ruleAlone
 receiverTold ReceiverQuestion.«interval_max_lateness» = ruleAlone
 
--- 5 hangs on the record only where a sample is out of range: which slots are live is the record's to say
+-- 5 depends on the record only where a sample is out of range: which slots are live is the record's to say
 abbrev pub toReceiver : ℕ → ReceiverCall → Put
 toReceiver capacity (ReceiverCall.«record_frame» f sampled) = frame capacity f
 toReceiver capacity (ReceiverCall.«record_recv» f) = frame capacity f

@@ -35,7 +35,7 @@ eventOf (ReceiverCall.«update_report_interval_from_srtt» srtt) = no-event
 eventOf (ReceiverCall.«update_report_interval_with_bounds» srtt lo hi) = no-event
 eventOf (ReceiverCall.ask q) = no-event
 
--- ---- "expected": the counter that is due
+-- ---- "expected": the counter that should come next
 -- the highest counter that came since new or the last rekey, if a frame did
 pub data Highest : Type 0 where
   no-frame : Highest
@@ -52,7 +52,7 @@ unfoldable pub highestAfter : List ReceiverCall → Highest
 highestAfter [] = no-frame
 highestAfter (c ∷ l) = highestBy (eventOf c) (highestAfter l)
 
--- one more is due, as far as a counter goes; before the first frame none is
+-- one more is expected, up to the greatest counter; before the first frame none is
 pub data Due : Type 0 where
   none-due : Due
   due : ℕ → Due
@@ -133,7 +133,7 @@ pub record Moves (s : ReceiverState) : Type 0 where
 abbrev pub MovesHold : Type 0
 MovesHold = (s : ReceiverState) → Moves s
 
--- ---- "Report bytes are untouched by this": nothing but its accessor tells it
+-- ---- "Report bytes are untouched by this": only its accessor shows it
 -- a record with another lateness, every other field as it is
 abbrev pub later : ReceiverState → ℕ → ReceiverState
 later s lateness =

@@ -69,7 +69,7 @@ pub record Rules (e : End) : Type 0 where
   pub receiver : receivers.keepsRule (e .receiver) ≡ true
   pub metrics : metrics.keepsRule (e .metrics) ≡ true
 
--- so no call is refused by 1; and each is refused by the first question that its own arguments answer no, or accepted, unless the record answers one no
+-- so no call is refused by 1; and each is refused by the first question to which its own arguments answer no, or accepted, unless the record answers no to one
 abbrev pub NotByRule : Entry ends → Type 0
 NotByRule n = n .refusal ≢ 1
 

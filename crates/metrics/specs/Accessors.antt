@@ -1,4 +1,4 @@
--- What the accessors of metrics.rs answer behind question 1. Definitions only.
+-- What the accessors of metrics.rs answer after question 1. Definitions only.
 use mathlib.Core.Bool.{cond, _&&_}
 use lib.Dec.{eqb}
 use lib.Ieee.{Float, binary64}

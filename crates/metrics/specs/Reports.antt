@@ -144,7 +144,7 @@ staleReport m = answered 0 (staleCounted m) (outcomeOf false (log.Stale (m .«pr
 unfoldable pub processed : MmpMetrics → ReceiverReport → ℕ → ℕ → ReportProcessed
 processed m rr ours now = cond (stale (savedIn m) rr) (staleReport m) (newerReport m rr ours now)
 
--- ---- behind the questions
+-- ---- after the questions
 -- document 01, the checks: questions 1, 2 and 10. 8 is not asked: each round trip here is in its range
 unfoldable pub processRefusal : MmpMetrics → ℕ → ℕ
 processRefusal m now = firstNo (question 1 (keepsRule m) ∷ question 2 (clockOk now) ∷ question 10 (counterOk 64 (m .«reports_seen») 1) ∷ [])

@@ -1,5 +1,5 @@
 -- A method on a reader by value that passes its payload and its position on, for every answer and every function on a slice and a position: a method whose MIR is `function` answers what
--- the function does, so it meets each contract that says no more. A reader is Copy: what it owns is had twice, one copy is kept whole for the exit, and of the other what the payload owns goes to the function,
+-- the function does, so it meets each contract that says no more. A reader is Copy: what it owns may be used twice, one copy is kept whole for the exit, and of the other what the payload owns goes to the function,
 -- beside the lifetime's token.
 use mathlib.Core.Path.{_≡_, refl, sym, subst}
 use Prim.Native.Nat.{ℕ, _<_, _^_}

@@ -1,4 +1,4 @@
-// Each read by a reader that is made at a position of a payload, and what a new one has left: whoever calls this needs no walk.
+// Each read by a reader that is made at a position of a payload, and what a new one has left: a caller of these needs no walk by hand.
 ghost use mathlib.Core.Path.{_≡_};
 ghost use lib.ListN.{length};
 ghost use Rattle.codec.specs.Reading.{readU8, readU16, readU32, readU64, readArray2, readArray4, readArray8};

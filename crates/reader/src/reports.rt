@@ -22,7 +22,7 @@ impl<'a> Reader<'a> {
     }
 }
 
-// The same answer as `SenderReport::decode`: whoever calls this needs no walk.
+// The same answer as `SenderReport::decode`: a caller of this needs no walk by hand.
 pub fn decode_sender_report(payload: &[u8]) -> SenderReportDecoded
     ensures { λ r. ⌜ r ≡ Sender.decoded (now (payload .entry)) ⌝ }
 {

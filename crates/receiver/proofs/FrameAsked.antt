@@ -1,4 +1,4 @@
--- What a frame that nothing refuses knows of its record and its arguments, and that counting moves nothing that the windows hang on.
+-- What a frame that nothing refuses knows of its record and its arguments, and that counting moves nothing that the windows depend on.
 use mathlib.Core.Path.{_≡_, refl}
 use mathlib.Core.Bool.{Bool, true, not, _&&_, and-eq-true-iff, or-true}
 use mathlib.Core.List.{List, [], _∷_}

@@ -1,4 +1,4 @@
--- The trend asks questions 1, 4 and 5 of its own: where the first two are answered yes before it, its number says question 5, and its value is the trend.
+-- The trend asks questions 1, 4 and 5 of its own: where the first two have been answered yes, its number is that of question 5, and its value is the trend.
 use mathlib.Core.Path.{_≡_, refl}
 use mathlib.Core.Bool.{Bool, true, false, cond}
 use mathlib.Core.List.{List, [], _∷_}

@@ -27,7 +27,7 @@ use Rattle.receiver.specs.declared.ReceiverUpdate.{ReceiverUpdate}
 unfoldable pub reordersAfter : ℕ → ℕ → ℕ → ℕ
 reordersAfter reorders highest counter = cond (ltb counter highest) (reorders + 1) reorders
 
--- ECN: one more for a frame marked CE, as far as 32 bits go
+-- ECN: one more for a frame marked CE, saturating at 32 bits
 unfoldable pub markedAfter : ℕ → Bool → ℕ
 markedAfter count ce = cond ce (min (count + 1) (2 ^ 32 - 1)) count
 

@@ -41,11 +41,11 @@ withPace s p =
       };
     }
 
--- "receiver's 1 × SRTT": behind questions 1 and 8, and counted
+-- "receiver's 1 × SRTT": after questions 1 and 8, and counted
 unfoldable pub fromSrttOf : ReceiverState → ℤ → ReceiverUpdate
 fromSrttOf s srtt = withPace s (fromSrtt (keepsRule s) 1 (s .«report_interval_ms») (s .«srtt_sample_count») srtt)
 
--- the same between the caller's bounds, behind questions 1, 2, 8 and 9, and not counted
+-- the same between the caller's bounds, after questions 1, 2, 8 and 9, and not counted
 unfoldable pub withBoundsOf : ReceiverState → ℤ → ℕ → ℕ → ReceiverUpdate
 withBoundsOf s srtt lo hi = withPace s (withBounds (keepsRule s) 1 (s .«report_interval_ms») (s .«srtt_sample_count») srtt lo hi)
 
@@ -58,6 +58,6 @@ passed (Some last) interval now = leb interval (now - last)
 unfoldable pub isDue : ReceiverState → ℕ → Bool
 isDue s now = s .«interval_has_data» && passed (s .«last_report_ms») (s .«report_interval_ms») now
 
--- the same behind questions 1 and 2; no on a refusal
+-- the same after questions 1 and 2; no on a refusal
 unfoldable pub shouldSendOf : ReceiverState → ℕ → AnswerBool
 shouldSendOf s now = answerBool (clockRefusal s now) (isDue s now)

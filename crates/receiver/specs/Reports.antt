@@ -21,7 +21,7 @@ use Rattle.receiver.specs.State.{keepsRule}
 use Rattle.receiver.specs.declared.ReceiverState.{ReceiverState}
 use Rattle.receiver.specs.declared.reports.ReceiverReportBuilt.{ReceiverReportBuilt}
 
--- a count as far as 32 bits go
+-- a count, saturating at 32 bits
 abbrev pub saturated : ℕ → ℕ
 saturated count = min count (2 ^ 32 - 1)
 
@@ -93,7 +93,7 @@ reportRefusal s times delays now =
     ∷ []
     )
 
--- the same behind the questions
+-- the same after the questions
 unfoldable pub builtOf : ReceiverState → List ℕ → List ℤ → ℕ → ReceiverReportBuilt
 builtOf s times delays now =
     cond (eqb (reportRefusal s times delays now) 0) (built s (trendOf (window (s .«owd_trend») times delays)) now) (noneBuilt (reportRefusal s times delays now) s)

@@ -1,5 +1,5 @@
-// What a call is lent: bytes, or the times or the delays of a window. Without generics a loop for each would be the same three times; so one loop fills
-// them and one writes them, over all kinds side by side, and its callers lend nothing of the others. Every function is total.
+// What a call is lent: bytes, or the times or the delays of a window. Without generics each kind would need the same loop; so one loop fills
+// them and one writes them, over all kinds side by side, and a caller lends empty slices for the kinds that it does not use. Every function is total.
 use crate::tables::from;
 use crate::tables::pattern64;
 use crate::tables::push;
@@ -113,7 +113,7 @@ fn number_at(numbers: &[u64], bytes: &[u8], times: &[u32], delays: &[i64], i: us
     0
 }
 
-// Puts so many numbers behind the n that are there, and answers how many there are now.
+// Puts so many numbers after the n that are there, and answers how many there are now.
 fn push_each(
     answer: &mut [u64],
     n: usize,

@@ -1,4 +1,4 @@
-// What a call answers, by value: numbers, and whether the call's buffer stands behind them.
+// What a call answers, by value: numbers, and whether the call's buffer follows them.
 use crate::lent::push_bare;
 use crate::lent::push_numbers;
 use crate::tables::first;
@@ -22,7 +22,7 @@ use refusals::option::OptionF64;
 use refusals::option::OptionU32;
 use refusals::option::OptionU64;
 
-// Room for the longest answer: a report and the record behind it.
+// Room for the longest answer: a report and the record after it.
 const ROOM: usize = 64;
 
 pub struct Reply {
@@ -119,7 +119,7 @@ impl Reply {
         }
     }
 
-    // With the call's buffer behind the numbers.
+    // With the call's buffer after the numbers.
     pub fn and_buffer(self) -> Reply {
         let mut reply = self;
         reply.with_buffer = true;
@@ -142,7 +142,7 @@ pub fn two(a: u64, b: u64) -> Reply {
     Reply::new().and(a).and(b)
 }
 
-// The refusal; what the call answers beside it comes behind.
+// The refusal; what else the call answers comes after it.
 pub fn refusal(n: u8) -> Reply {
     one(wide_u8(n))
 }

@@ -38,7 +38,7 @@ fn malformed(s: Scan) -> Scan {
     bad
 }
 
-// A digit d, 0 to 9, behind the digits so far.
+// A digit d, 0 to 9, after the digits so far.
 fn digit(s: Scan, d: u64) -> Scan {
     let value = s.value;
     if value > 1844674407370955161 {

@@ -214,7 +214,7 @@ fn record_end(call: u64) -> u64 {
     }
 }
 
-// The shape of a call's arguments; 0xf for a call that is none, which no number fits.
+// The shape of a call's arguments; 0xf for a number that is no call, which no argument fits.
 fn shape_of(call: u64) -> u64 {
     match call {
         101 | 102 | 105..=108 | 110..=112 | 122 | 129 | 141..=146 | 161..=167 | 170 | 171 => 0x8b,

@@ -155,7 +155,7 @@ pub fn after_bytes(given: &[u64], at: usize) -> usize {
     given.len()
 }
 
-// Puts a number behind the n that are there, and answers how many there are now.
+// Puts a number after the n that are there, and answers how many there are now.
 pub fn push(answer: &mut [u64], n: usize, x: u64) -> usize {
     if n < answer.len() {
         answer[n] = x;

@@ -17,7 +17,7 @@ pub fn new() -> Text {
     }
 }
 
-// A byte behind those that wait.
+// A byte after those that wait.
 fn put(out: &mut [u8], t: Text, b: u8) -> Text {
     if t.failed {
         return t;

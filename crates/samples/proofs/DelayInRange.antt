@@ -1,4 +1,4 @@
--- A sample's age is below 2^30 ms, so its delay is within ±2^42 µs: question 5 of a pushed sample can't be answered no.
+-- A sample's age is below 2^30 ms, so its delay is within ±2^42 µs: a pushed sample always answers yes to question 5.
 use mathlib.Core.Path.{_≡_, refl, ap, _∙_}
 use mathlib.Core.Bool.{Bool, true, false}
 use Prim.Native.Nat.{ℕ, suc, _+_, _-_, _*_, _^_, _≤_, _<_}

@@ -8,7 +8,7 @@ use lib.IntN.{ℤ, pos, negsuc, negℤ, subℕ, _+ℤ_, _-ℤ_, _*ℤ_}
 use borrow.Author.Tests.{ltb-true, ltb-false}
 use Rattle.refusals.proofs.PickedByTest.{picked}
 
--- by the test that tells the sign of a − b
+-- by the test of the sign of a − b
 module _ (P : ℤ → Type 0) (a b : ℕ) where
   pub by-sign : (a < b → P (negsuc (b - suc a))) → (b ≤ a → P (pos (a - b))) → P (subℕ a b)
   by-sign below above = picked P (ltb a b) (λ e. below (ltb-true a b e)) (λ e. above (ltb-false a b e))

@@ -161,7 +161,7 @@ pub fn sample_owd_unchecked(
     live.push_unchecked(times, delays, age as u32, us)
 }
 
-// The same behind its questions, with the reference after it. Question 5 is answered yes by every sample.
+// The same after its questions, with the reference after it. Every sample answers yes to question 5.
 pub fn sample_owd(
     window: OwdTrendDetector,
     owd_ref: OwdReference,

@@ -35,11 +35,11 @@ withPace s p =
       };
     }
 
--- "Sender interval is 2 × SRTT": behind questions 1 and 8, and counted
+-- "Sender interval is 2 × SRTT": after questions 1 and 8, and counted
 unfoldable pub fromSrttOf : SenderState → ℤ → SenderUpdate
 fromSrttOf s srtt = withPace s (fromSrtt (keepsRule s) 2 (s .«report_interval_ms») (s .«srtt_sample_count») srtt)
 
--- the same between the caller's bounds, behind questions 1, 2, 8 and 9, and not counted
+-- the same between the caller's bounds, after questions 1, 2, 8 and 9, and not counted
 unfoldable pub withBoundsOf : SenderState → ℤ → ℕ → ℕ → SenderUpdate
 withBoundsOf s srtt lo hi = withPace s (withBounds (keepsRule s) 2 (s .«report_interval_ms») (s .«srtt_sample_count») srtt lo hi)
 
@@ -51,6 +51,6 @@ effectiveMs s = s .«report_interval_ms» * backoff (s .«consecutive_send_failu
 unfoldable pub isDue : SenderState → ℕ → Bool
 isDue s now = s .«interval_has_data» && (not (s .«has_last_report») || leb (effectiveMs s) (now - s .«last_report_ms»))
 
--- the same behind the questions; no on a refusal
+-- the same after the questions; no on a refusal
 unfoldable pub shouldSendOf : SenderState → ℕ → AnswerBool
 shouldSendOf s now = answerBool (reportRefusal s now) (isDue s now)

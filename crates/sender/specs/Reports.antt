@@ -59,6 +59,6 @@ someBuilt s now r = record { refusal = 0; some = true; report = r; state = repor
 unfoldable pub built : SenderState → ℕ → SenderReportBuilt
 built s now = cond (s .«interval_has_data») (someBuilt s now (reportOf s)) (noneBuilt 0 s)
 
--- the same behind the questions
+-- the same after the questions
 unfoldable pub builtOf : SenderState → ℕ → SenderReportBuilt
 builtOf s now = cond (eqb (reportRefusal s now) 0) (built s now) (noneBuilt (reportRefusal s now) s)

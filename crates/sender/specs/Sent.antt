@@ -62,6 +62,6 @@ countersOk s bytes = counterOk 64 (s .«cumulative_packets_sent») 1 && counterO
 unfoldable pub sentRefusal : SenderState → ℕ → ℕ
 sentRefusal s bytes = firstNo (question 1 (keepsRule s) ∷ question 3 (frameSizeOk bytes) ∷ question 10 (countersOk s bytes) ∷ [])
 
--- the frame behind the questions
+-- the frame after the questions
 unfoldable pub sentOf : SenderState → ℕ → ℕ → ℕ → SenderUpdate
 sentOf s counter timestamp bytes = updated (sentRefusal s bytes) s (sent s counter timestamp bytes)

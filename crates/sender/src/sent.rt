@@ -29,7 +29,7 @@ impl SenderState {
         state
     }
 
-    // The number of a frame's first no where there is one: what is neither the rule's nor the size's is the counters'.
+    // The number of the first question that refuses the frame, where one does: if it is neither the rule nor the size, it is the counters.
     fn sent_no(self, bytes: usize) -> u8
         ensures { λ r. ⌜ r ≡ firstNo (question 1 (keepsRule self) ∷ question 3 (frameSizeOk bytes) ∷ question 10 false ∷ []) ⌝ }
     {
@@ -40,7 +40,7 @@ impl SenderState {
         q.first_no()
     }
 
-    // The refusal of a frame. The tests stand in the order in which the compiler keeps each a compare and a branch: the bytes' sum is then its own test.
+    // The refusal of a frame. The tests stand in the order in which the compiler makes each a compare and a branch: the bytes' sum is then its own test.
     fn sent_refusal(self, bytes: usize) -> u8
         ensures { λ r. ⌜ r ≡ sentRefusal self bytes ⌝ }
     {

@@ -1,4 +1,4 @@
--- WHERE A FRAME STANDS is answered by the counter that was due, and that follows the counters of the frames before.
+-- WHERE A FRAME STANDS is answered by the expected counter, which follows from the counters of the frames before.
 use mathlib.Core.Path.{_≡_, refl, ap, _∙_}
 use mathlib.Core.Bool.{Bool, true, false, cond}
 use mathlib.Core.List.{List, [], _∷_}
@@ -79,7 +79,7 @@ stands (Some expected) counter = go (ltb expected counter) (ltb counter expected
     go false true a na b nb = behind-stands expected counter (b refl)
     go false false a na b nb = let p = na refl in let q = nb refl in sequence-stands expected counter (omega arith)
 
--- THE ANSWER, of any tracker and any counter that is not refused: "behind by n" exactly where a frame came before and the counter is n below the one due, n at least 1
+-- THE ANSWER, of any tracker and any counter that is not refused: "behind by n" exactly where a frame came before and the counter is n below the expected one, n at least 1
 pub arrival-told : (t : GapTracker) (counter : ℕ) → observeOf t counter .refusal ≡ 0 → Stands (t .«expected_next») counter (observeOf t counter .arrival)
 unfolding observeOf gaps.observed
 arrival-told t counter h = rw h (stands (t .«expected_next») counter)
@@ -91,7 +91,7 @@ lost-told InSequence = record { gap = λ n e. never cc; first = λ e. refl; in-s
 lost-told (Gap m) = record { gap = λ n e. cc; first = λ e. never cc; in-sequence = λ e. never cc; behind = λ n e. never cc }
 lost-told (Behind m) = record { gap = λ n e. never cc; first = λ e. refl; in-sequence = λ e. refl; behind = λ n e. refl }
 
--- the counter that is due, whatever order the frames came in
+-- the expected counter, whatever order the frames came in
 due-after : (counters : List ℕ) (t : GapTracker) (highest : ℕ) → t .«expected_next» ≡ Some (min (highest + 1) (2 ^ 64 - 1)) →
     after t counters .«expected_next» ≡ Some (min (max highest (greatest counters) + 1) (2 ^ 64 - 1))
 unfolding greatest gaps.observed

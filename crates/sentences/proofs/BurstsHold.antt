@@ -1,4 +1,4 @@
--- THE BURSTS THAT A REPORT TELLS are those of the gaps between the counters of the interval's frames.
+-- THE BURSTS IN A REPORT are those of the gaps between the counters of the interval's frames.
 use Prim.Native.Nat.{ℕ, zero, suc, _+_, _-_, _*_, _/_, _^_, _≤_, _<_, min, max}
 use mathlib.Core.Path.{_≡_, refl, sym, ap, ap₂, _∙_}
 use mathlib.Core.Bool.{Bool, true, false, cond, true≢false}
@@ -27,7 +27,7 @@ Counters (counter ∷ rest) = (counter < 2 ^ 64) × Counters rest
 abbrev pub after : GapTracker → List ℕ → GapTracker
 after = foldl (λ (t : GapTracker) (counter : ℕ). gaps.observed t counter .tracker)
 
--- the counter that is due after the highest
+-- the counter expected after the highest
 abbrev due : ℕ → ℕ
 due highest = min (highest + 1) (2 ^ 64 - 1)
 
@@ -48,7 +48,7 @@ tracker expected underway missing finished most sum =
       «total_burst_len» = sum;
     }
 
--- what is told of the bursts finished before and of these
+-- what is reported of the bursts finished before and of these
 record Told (told : IntervalStats) (finished most sum : ℕ) (ls : List ℕ) : Type 0 where
   count : told .count ≡ finished + length ls
   longest : told .max ≡ max most (greatest ls)
@@ -59,7 +59,7 @@ unfolding meanBurst mean
 same-mean sum zero = refl
 same-mean sum (suc n) = rw (ne-eqb (suc n) 0 (λ e. absurd (omega arith))) (let e : min (256 * sum / suc n) 65535 ≡ min 65535 (256 * sum / suc n) = omega arith in e)
 
--- a burst under way will be told
+-- a burst under way will be reported
 one-more : (missing : ℕ) (gs : List ℕ) → 1 ≤ length (lengths true missing gs)
 unfolding lengths
 one-more missing [] = omega arith
@@ -87,7 +87,7 @@ ended expected true missing finished most sum small =
 ended expected false missing finished most sum small =
     record { count = omega arith; longest = omega arith; mean = same-mean _ _ ∙ ap₂ mean (omega arith) (omega arith) }
 
--- from any tracker on, what is told is what the gaps between these counters say
+-- from any tracker on, what is reported is what the gaps between these counters say
 abbrev Tells : List ℕ → Type 0
 Tells counters =
     (highest : ℕ) (underway : Bool) (missing finished most sum : ℕ) →

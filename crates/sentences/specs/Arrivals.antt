@@ -13,7 +13,7 @@ use Rattle.sentences.specs.Bursts.{greatest}
 abbrev pub Exactly : Type 0 → Type 0 → Type 0
 Exactly A B = (A → B) × (B → A)
 
--- the counter is n past the one due, or n below it: a frame came before, and n is at least 1
+-- the counter is n past the expected one, or n below it: a frame came before, and n is at least 1
 pub record Past (due : OptionU64) (counter n : ℕ) : Type 0 where
   pub expected : ℕ
   pub came : due ≡ Some expected
@@ -26,7 +26,7 @@ pub record Below (due : OptionU64) (counter n : ℕ) : Type 0 where
   pub apart : expected ≡ counter + n
   pub some : 1 ≤ n
 
--- what is answered of a frame of this counter, where this one was due, or none before the first frame
+-- what is answered of a frame of this counter, where this one was expected, or none before the first frame
 pub record Stands (due : OptionU64) (counter : ℕ) (answer : Arrival) : Type 0 where
   pub first : Exactly (answer ≡ First) (due ≡ None)
   pub in-sequence : Exactly (answer ≡ InSequence) (due ≡ Some counter)
@@ -40,6 +40,6 @@ pub record Lost (answer : Arrival) (lost : ℕ) : Type 0 where
   pub in-sequence : answer ≡ InSequence → lost ≡ 0
   pub behind : (n : ℕ) → answer ≡ Behind n → lost ≡ 0
 
--- the counter that is due after a frame of this counter and of these: one above the greatest, as far as 64 bits go
+-- the counter expected after a frame of this counter and of these: one above the greatest, saturating at 64 bits
 abbrev pub dueAfter : ℕ → List ℕ → ℕ
 dueAfter counter counters = min (greatest (counter ∷ counters) + 1) (2 ^ 64 - 1)

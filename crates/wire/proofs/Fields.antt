@@ -25,7 +25,7 @@ pub field-alike : (s t : List ℕ) (from to at n : ℕ) → AlikeOn s t from to 
 field-alike s t from to at n e a b hs ht =
     sym (field-here s at n (omega arith)) ∙ read-alike s t at n (λ i p q. e i (omega arith) (omega arith)) ∙ field-here t at n (omega arith)
 
--- ---- the bytes of fields that stand one after the other are the payload's, behind any other bytes
+-- ---- the bytes of fields that stand one after the other are the payload's, after any other bytes
 module _ (s : List ℕ) (small : Bytes s) (front : List ℕ) where
   pub first-field : {bytes : List ℕ} (at n : ℕ) → at + n ≤ length s → bytes ≡ front → bytes ++ leBytes n (fieldAt s at n) ≡ front ++ take n (drop at s)
   first-field at n h e = ap₂ _++_ e (ap (leBytes n) (sym (field-here s at n (omega arith))) ∙ bytes-read s at n small h)

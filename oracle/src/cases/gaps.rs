@@ -127,7 +127,7 @@ fn stats(t: &Tracker) -> (Case, Tracker) {
     (on_tracker(453, t, &[], &numbers, outside), after)
 }
 
-/// Behind its questions: 1, and 10 of the bursts.
+/// After its questions: 1, and 10 of the bursts.
 pub fn observe_asked(t: &Tracker, counter: u64) -> Case {
     let refusal = first_no(&[(1, tracker_keeps(t)), (10, room_for_burst(t, counter))]);
     // Where the count is full, the commit panics.
@@ -304,7 +304,7 @@ pub fn any_tracker(rng: &mut Rng) -> Tracker {
     t
 }
 
-/// A counter: mostly about the one that is due.
+/// A counter: mostly about the expected one.
 pub fn counter_for(rng: &mut Rng, t: &Tracker) -> u64 {
     let due = t.expected_next.unwrap_or(7);
     match rng.below(7) {

@@ -55,7 +55,7 @@ pub fn report_built(case: &Case) -> Option<ReceiverReport> {
     }
 }
 
-/// One of what is under way, mostly the oldest; seldom it stays to come again.
+/// One of those under way, mostly the oldest; seldom it stays, to come again.
 fn arriving<T: Clone>(rng: &mut Rng, under_way: &mut Vec<T>) -> Option<T> {
     if under_way.is_empty() {
         return None;
@@ -150,7 +150,7 @@ impl Peer {
         self.receive(call, told);
     }
 
-    /// A report, as its bytes tell it.
+    /// A report, decoded from its bytes.
     fn report_sent(&mut self, now_ms: u64, told: &mut Told) {
         self.receive(receiver_call::Call::BuildReport(now_ms), told);
         let built = told.cases.last().and_then(report_built);

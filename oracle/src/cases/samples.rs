@@ -136,7 +136,7 @@ fn sample_unchecked(r: &Ring, owd_ref: Option<(u64, u32)>, timestamp: u32, now_m
     Case::new(on_window(466, r, owd_ref, timestamp, now_ms), (answer, outside))
 }
 
-/// The same behind its questions: 1 of the window and the reference, 2, 4, and 5, which no sample is refused by.
+/// The same after its questions: 1 of the window and the reference, 2, 4, and 5, by which no sample is refused.
 fn sample_asked(r: &Ring, owd_ref: Option<(u64, u32)>, timestamp: u32, now_ms: u64) -> Case {
     let rule = r.keeps() && owd_ref.is_none_or(|(recv_ms, _)| recv_ms <= MAX_MS);
     let (_, owd_us) = pair_of(owd_ref, timestamp, now_ms);

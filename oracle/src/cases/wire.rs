@@ -189,7 +189,7 @@ pub fn boundary_cases(rng: &mut Rng) -> Vec<Case> {
     cases
 }
 
-/// A copy with a bit or a byte changed, cut short, or with bytes behind it.
+/// A copy with a bit or a byte changed, cut short, or with bytes after it.
 fn damaged(rng: &mut Rng, bytes: &[u8]) -> Vec<u8> {
     let mut copy = bytes.to_vec();
     match rng.below(5) {

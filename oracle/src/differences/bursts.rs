@@ -1,4 +1,4 @@
-//! Where the gap tracker and a frame's jitter answer though the commit panics, or otherwise than it: the smallest input of each, and the commit run on it.
+//! Where the gap tracker and a frame's jitter answer where the commit panics, or differ from it: the smallest input of each, and the commit run on it.
 
 use std::collections::VecDeque;
 
@@ -9,7 +9,7 @@ use crate::proto::mmp::algorithms::oracle_access::owd;
 use crate::proto::mmp::receiver::oracle_access as receiver_access;
 use crate::proto::mmp::receiver::oracle_access::{finish_burst, observe, Tracker};
 
-/// The tracker behind its questions and without them, and the jitter of a frame: without them a full count saturates, a D is reduced.
+/// The tracker after its questions and without them, and the jitter of a frame: without them a full count saturates, a D is reduced.
 pub fn rows(points: &mut Points) {
     long_gaps(points);
     late_frame(points);

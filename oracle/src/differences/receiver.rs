@@ -20,7 +20,7 @@ fn new_receiver() -> Receiver {
     Receiver::of(&ReceiverState::new(2), ring_of(2))
 }
 
-/// What of the commit's answer and of its fields tells.
+/// The part of the commit's answer and fields that shows the difference.
 type Tells = dyn Fn(&[u64], &receiver_access::Fields) -> String;
 
 fn on_receiver(points: &mut Points, name: &str, input: &str, r: &Receiver, call: OnReceiver, tell: &Tells) {

@@ -1,4 +1,4 @@
-//! Where RFC 6298 and RFC 3550, read to the letter, part from the commit and the port: the smallest input of each point, its exact average, and what is answered.
+//! Where RFC 6298 and RFC 3550, read to the letter, differ from the commit and the port: the smallest input of each point, its exact average, and what is answered.
 
 use std::fmt;
 

@@ -19,7 +19,7 @@ pub fn rows(points: &mut Points) {
         timestamp: 0,
         bytes,
     };
-    // The commit's answer, then the fields that tell.
+    // The commit's answer, then the fields that show the difference.
     let mut on = |name: &str, input: &str, s: Sender, call: OnSender, tell: &dyn Fn(&[u64], &sender_access::Fields) -> String| {
         let run = || {
             let mut c = sender_access::state(&s.fields);

@@ -1,8 +1,8 @@
-//! Lists of samples that are looked for so that each rounding loses the most: a beam over the residues of the next sample.
+//! Lists of samples found by a search in which each rounding loses the most: a beam search over the residues of the next sample.
 
 use crate::script::rng::Rng;
 
-/// How many lists are carried on, how long they grow, and how many samples are tried after each.
+/// How many lists are kept at each step, how long they grow, and how many samples are tried after each.
 const WIDTH: usize = 200;
 const STEPS: usize = 80;
 const TRIED: u32 = 24;
@@ -45,7 +45,7 @@ impl Trips {
     }
 }
 
-/// Carries the lists that hope most on. Answers the list that got farthest, and the ones that are carried at the end.
+/// Goes on with the most promising lists. Answers the list that got farthest, and the lists left at the end.
 fn beam<T: Clone>(
     rng: &mut Rng,
     begun: &[T],
@@ -76,7 +76,7 @@ fn beam<T: Clone>(
 /// Round trips, in whole milliseconds, after which SRTT is far above S, or RTTVAR far above or below V.
 pub fn round_trips(rng: &mut Rng) -> Vec<Vec<u32>> {
     let begun: Vec<Trips> = (1..=64).map(Trips::first).collect();
-    // The variation is farthest off while the smoothed value is: so it is looked for from lists that are far above.
+    // The variation is farthest off while the smoothed value is: so the search begins from lists that are far above.
     let (above, lists) = beam(rng, &begun, Trips::and, |t| t.above, |t| t.above);
     let mut found = vec![above.ms];
     for way in [1.0, -1.0] {

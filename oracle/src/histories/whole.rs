@@ -1,4 +1,4 @@
-//! Whole numbers of any length, as far as the exact averages need them.
+//! Whole numbers of any length, with the operations that the exact averages need.
 
 use std::cmp::Ordering;
 

@@ -134,7 +134,7 @@ impl Metrics {
         kind_of(f.has_prev_rr.then_some(kept), report, our_timestamp_ms)
     }
 
-    /// The kind that the commit tells, by its log entry and by what its own counters rose; none where these do not fit.
+    /// The kind that the commit shows, by its log entry and by which of its counters rose; none where these do not agree.
     fn told(&self, log: u64, after: &Fields) -> Option<Kind> {
         let f = &self.fields;
         let rises = [

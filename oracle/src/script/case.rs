@@ -1,4 +1,4 @@
-//! A line of the script with the answer that is expected, and how it is come by.
+//! A line of the script with the expected answer, and where that comes from.
 
 use std::cell::Cell;
 use std::panic::{self, AssertUnwindSafe};
@@ -16,7 +16,7 @@ pub struct Case {
     pub call: u64,
     pub line: String,
     pub answer: Answer,
-    /// The commit panics here, has nothing to refuse with or is parted from by a request: the answer is the rule of docs/REPLAY.md.
+    /// The commit panics here, has nothing to refuse with, or a request differs from it: the answer is the rule of docs/REPLAY.md.
     pub outside: bool,
     /// Whether it is a request of document 02 that parts from the commit.
     pub requested: bool,
@@ -48,7 +48,7 @@ impl Case {
         }
     }
 
-    /// Where a request parts from the commit, what it alters is the request's.
+    /// Where a request differs from the commit, what it alters is the request's.
     pub fn as_requested(mut self, parts: bool) -> Self {
         self.requested |= parts;
         self.outside |= parts;

@@ -20,7 +20,7 @@ enum Shown {
     Trend(u64, bool),
 }
 
-/// The calls that are asked for a size, first among their arguments, and the one that tells the trend of a window.
+/// The calls whose first argument is a requested size, and the one that answers the trend of a window.
 const CONSTRUCTORS: [u64; 3] = [331, 501, 503];
 const TREND: u64 = 334;
 

@@ -47,7 +47,7 @@ impl<'a> Sum<&'a Count> for Count {
 #[derive(Default)]
 pub struct Report {
     counts: BTreeMap<u64, Count>,
-    /// Accepted frames behind a gap: well below `LAST_GAP`, the last two up to it, the first two past it, longer ones.
+    /// Accepted frames after a gap: well below `LAST_GAP`, the last two up to it, the first two past it, longer ones.
     gaps: [usize; 4],
     /// Accepted frames on a receiver that are behind, and those of them that raise the greatest lateness: by 1, by more.
     late: [[usize; 2]; 2],

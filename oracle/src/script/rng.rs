@@ -1,4 +1,4 @@
-//! Random numbers from a seed (SplitMix64), with a bent for the boundaries.
+//! Random numbers from a seed (SplitMix64), with a preference for the boundaries.
 
 pub struct Rng(u64);
 

@@ -1,4 +1,4 @@
-// Joined tests, for the speed of `process_receiver_report` alone: they answer all questions of an ordinary report at once. Where one says no, the questions are
+// Joined tests, for the speed of `process_receiver_report` alone: they answer all questions of an ordinary report at once. Where one is false, the questions are
 // put one by one.
 
 ghost use mathlib.Core.Path.{_≡_};
@@ -16,7 +16,7 @@ use refusals::ranges::MAX_DELAY_US;
 use refusals::ranges::MAX_ETX;
 use refusals::ranges::MAX_TREND;
 
-// So many reports, or 139 years in ms. No count or clock that runs has come so far.
+// A count of reports, or 139 years in ms. No running count or clock has come that far.
 const NEAR_CLOCK_OR_COUNT: u64 = 1 << 42;
 
 // 51 days: one below the bound of a round trip.
@@ -43,7 +43,7 @@ fn least_of(a: f64, b: f64, c: f64, d: f64, e: f64) -> f64
 
 impl MmpMetrics {
     // Trends, ratios, ETX and goodput are in range: lower ends, then upper. No trend, ratio or goodput is below the least of them; the trends and the goodput are at
-    // most their sum, which is a NaN where one of them is. A no says nothing.
+    // most their sum, which is a NaN where one of them is. False proves nothing.
     pub(crate) fn floats_near(self) -> bool
         ensures { λ r. ⌜ (r ≡ true → (trendsOk self ≡ true) × (ratiosOk self ≡ true)) ⌝ }
     {
@@ -94,7 +94,7 @@ impl MmpMetrics {
         self.etx < MAX_ETX
     }
 
-    // The clocks, the smoothed round trip and the counts are in range, none near its end. A no says nothing.
+    // The clocks, the smoothed round trip and the counts are in range, none near its end. False proves nothing.
     pub(crate) fn numbers_near(self, now_ms: u64) -> bool
         ensures { λ r. ⌜ (r ≡ true → (optionalClockOk (self .«prev_rr_ms») ≡ true)
             × (estimator.keepsRule (self .srtt) ≡ true)

@@ -1,5 +1,5 @@
-// Joined tests, which only speed a frame up: one answers yes to all the questions of an ordinary frame, for the compiler joins numbers that have one power of 2
-// as their bound, and compares once. A no says nothing: then the questions are put one by one.
+// Joined tests, which only speed a frame up: they answer yes to all the questions of an ordinary frame at once, since the compiler joins numbers that are bounded by one
+// power of 2 and compares once. False proves nothing: then the questions are put one by one.
 
 ghost use mathlib.Core.Path.{_≡_};
 ghost use mathlib.Core.Bool.{true};
@@ -18,7 +18,7 @@ use refusals::option::unwrap_or_zero;
 use refusals::ranges::frame_size_ok;
 use samples::delay::OwdReference;
 
-// 139 years: a clock below it is near. No clock that runs has come so far.
+// 139 years: a clock below it is near. No running clock has come that far.
 const NEAR_CLOCK_MS: u64 = 1 << 42;
 
 // Half of what a counter holds: a count below it is low.
@@ -92,7 +92,7 @@ impl ReceiverState {
             & frame_size_ok(bytes)
     }
 
-    // Every question of a frame is answered yes; 5, of its sample, always is.
+    // Every question of a frame is answered yes; question 5, of its sample, always is.
     pub(crate) fn well_within(self, times: usize, delays: usize, bytes: usize, now_ms: u64) -> bool
         ensures { λ r. ⌜ (r ≡ true → (counter : ℕ) → firstNo (
             question 1 (keepsRule self)

@@ -35,7 +35,7 @@ pub fn trends_of(given: &[u64]) -> DualEwma {
     }
 }
 
-// The trends behind what a call answers.
+// The trends after what a call answers.
 pub fn and_trends(reply: Reply, s: DualEwma) -> Reply {
     reply
         .and_f64(s.short)

@@ -52,7 +52,7 @@ pub fn tracker_of(given: &[u64]) -> GapTracker {
     }
 }
 
-// The tracker behind what a call answers.
+// The tracker after what a call answers.
 pub fn and_tracker(reply: Reply, t: GapTracker) -> Reply {
     let expected_next = t.expected_next;
     reply

@@ -120,7 +120,7 @@ fn metrics_of(given: &[u64]) -> MmpMetrics {
     }
 }
 
-// The record behind what a call answers.
+// The record after what a call answers.
 fn and_metrics(reply: Reply, m: MmpMetrics) -> Reply {
     and_counts(and_saved(and_figures(reply, m), m), m)
 }
@@ -170,7 +170,7 @@ fn and_counts(reply: Reply, m: MmpMetrics) -> Reply {
         .and(m.no_echo_reports)
 }
 
-// The log entry behind what a call answers: its kind, and three numbers.
+// The log entry after what a call answers: its kind, and three numbers.
 fn and_log(reply: Reply, log: RrLog) -> Reply {
     match log {
         RrLog::None => reply.and(0).and(0).and(0).and(0),

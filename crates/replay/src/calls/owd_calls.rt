@@ -32,7 +32,7 @@ pub fn detector_of(given: &[u64]) -> OwdTrendDetector {
     }
 }
 
-// The detector behind what a call answers.
+// The detector after what a call answers.
 pub fn and_detector(reply: Reply, s: OwdTrendDetector) -> Reply {
     reply
         .and_size(s.capacity)

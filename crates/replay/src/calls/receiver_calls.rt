@@ -100,7 +100,7 @@ fn state_of(given: &[u64]) -> ReceiverState {
     }
 }
 
-// The state behind what a call answers.
+// The state after what a call answers.
 fn and_state(reply: Reply, s: ReceiverState) -> Reply {
     let jitter = s.jitter;
     let owd_trend = s.owd_trend;

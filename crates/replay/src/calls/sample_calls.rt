@@ -49,7 +49,7 @@ pub fn reference_of(given: &[u64]) -> OwdReference {
     }
 }
 
-// The reference behind what a call answers.
+// The reference after what a call answers.
 pub fn and_reference(reply: Reply, owd_ref: OwdReference) -> Reply {
     match owd_ref {
         OwdReference::None => reply.and(0).and(0).and(0),

@@ -80,7 +80,7 @@ fn state_of(given: &[u64]) -> SenderState {
     }
 }
 
-// The state behind what a call answers.
+// The state after what a call answers.
 fn and_state(reply: Reply, s: SenderState) -> Reply {
     reply
         .and(s.cumulative_packets_sent)

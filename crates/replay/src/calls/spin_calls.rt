@@ -39,7 +39,7 @@ fn state_of(given: &[u64]) -> SpinBitState {
     }
 }
 
-// The spin behind what a call answers.
+// The spin after what a call answers.
 fn and_spin(reply: Reply, s: SpinBitState) -> Reply {
     let last_edge_ms = s.last_edge_ms;
     reply

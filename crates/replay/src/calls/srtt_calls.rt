@@ -35,7 +35,7 @@ pub fn round_trip_of(given: &[u64]) -> SrttEstimator {
     }
 }
 
-// The round trip behind what a call answers.
+// The round trip after what a call answers.
 pub fn and_round_trip(reply: Reply, s: SrttEstimator) -> Reply {
     reply
         .and_i64(s.srtt_us)

@@ -12,7 +12,7 @@ use crate::reply::Reply;
 use crate::tables::after_bytes;
 use crate::tables::u64_of;
 
-// Where the times of a call's windows stand; the delays come behind them.
+// Where the times of a call's windows stand; the delays come after them.
 fn windows_at(call: u64) -> usize {
     match call {
         333 | 338 => 6,

@@ -76,7 +76,7 @@ pub fn receiver_of(given: &[u64]) -> ReceiverReport {
     }
 }
 
-// The report's fields behind what a call answers.
+// The report's fields after what a call answers.
 pub fn and_sender_report(reply: Reply, r: SenderReport) -> Reply {
     reply
         .and(r.interval_start_counter)
@@ -88,7 +88,7 @@ pub fn and_sender_report(reply: Reply, r: SenderReport) -> Reply {
         .and(r.cumulative_bytes_sent)
 }
 
-// The report's fields behind what a call answers.
+// The report's fields after what a call answers.
 pub fn and_receiver_report(reply: Reply, r: ReceiverReport) -> Reply {
     reply
         .and(r.highest_counter)

@@ -40,7 +40,7 @@ shared-slice-copy-out-owd-us c = search needs
 delay-ok-requires : tie.Need-delay-ok-requires Inv-loop μ-loop
 delay-ok-requires c κs = tt
 
--- what the test of a delay tells of the delays from its slot on
+-- what the test of a delay shows of the delays from its slot on
 module _ (d : tie.After-delay-ok Inv-loop μ-loop) where
   abbrev us : ℤ
   us = getD (d .before .before .before .before .before .args .delays .now) (d .before .before .before .loop .p) (pos 0)

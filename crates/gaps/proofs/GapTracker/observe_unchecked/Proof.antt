@@ -9,7 +9,7 @@ use Rattle.gaps.specs.declared.Observed.{Observed}
 use Rattle.gaps.proofs.GapTracker.observe_unchecked.Statement.{statement}
 use Rattle.gaps.proofs.GapTracker.observe_unchecked.Tie as tie
 
--- a frame beside the counter that was due
+-- a frame beside the expected counter
 abbrev beside : OptionU64 → GapTracker → ℕ → Observed
 beside due t counter = record { arrival = arrivalAt due counter; tracker = trackedAfter due t counter }
 

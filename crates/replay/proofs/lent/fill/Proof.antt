@@ -1,4 +1,4 @@
--- `replay::lent::fill` is safe and ends: what is lent keeps its length, and the numbers that are left fall.
+-- `replay::lent::fill` is safe and ends: the lent slices keep their length, and the numbers that are left fall.
 use borrow.Author.Needs.{needs}
 use Prim.Native.Nat.{_-_}
 use mathlib.Core.Path.{_≡_}

@@ -9,7 +9,7 @@ use oracle::proto::mmp::receiver::ReceiverState;
 
 const CAPACITY: usize = 32;
 
-/// The counter that is due: above every highest counter.
+/// The expected counter: above every highest counter.
 fn expected(n: u64) -> u64 {
     n | 1 << 36
 }
