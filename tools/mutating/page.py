@@ -51,7 +51,7 @@ def section(rows, seed, each):
     for function, found, tried in rows:
         lines += [row(answer) for answer in found]
         if len(found) < each:
-            why = f"{tried.get('no input found', 0)} changes drawn that showed no difference, {tried.get('no program', 0)} that are no program"
+            why = f"{tried.get('no input found', 0)} changes drawn that showed no difference, {tried.get('no program', 0)} that do not compile"
             lines.append(f"| {code(name(function))} | {'no' if not found else 'no other'} change found: {why} | | | |")
     return "\n".join(lines)
 

@@ -5,7 +5,7 @@ NAME = "wrong_answers_probe"
 
 
 class Run:
-    """`lines`: the answers, one for each case that was called; none where a call was undefined or did not end. `program`: whether the front end took it."""
+    """`lines`: the answers, one for each case that was called; none where a call was undefined or did not end. `program`: whether it compiled."""
 
     def __init__(self, program, lines):
         self.program, self.lines = program, lines

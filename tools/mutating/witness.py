@@ -1,4 +1,4 @@
-"""The input on which a changed function answers otherwise, looked for by running it beside the function as it stands."""
+"""The input on which a changed function answers otherwise, found by running it beside the function as it stands."""
 import os, re
 
 from . import runs
@@ -62,7 +62,7 @@ class Bench:
         return self.known[function.path]
 
     def look(self, change):
-        """A witness; or why there is none: no program, or no input found."""
+        """A witness; or why there is none: the change does not compile ("no program"), or no input was found."""
         program, given, cases, right = self.ready(change.of)
         runs.prepare(self.tree, change.of.crate.replace("reader", "held_reader"))
         path = self.file(change.file)
