@@ -52,7 +52,7 @@ const COMMANDS: [Command; 5] = [
     Command {
         name: "histories",
         words: "[--cases N] [--seed S]",
-        about: "runs N histories of a link, and some that are looked for, beside the exact averages",
+        about: "runs N histories of a link, and lists found by a search, beside the exact averages",
         cases: 2000,
         run: live,
     },

@@ -1,4 +1,4 @@
-//! The records beside the commit's: their rules and questions as document 01 reads them, the calls on them, and two ends that have them.
+//! The records beside the commit's: their rules and questions as docs/RULES.md has them, the calls on them, and two ends that have them.
 
 pub mod ends;
 pub mod metrics_call;

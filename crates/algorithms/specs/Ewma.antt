@@ -14,7 +14,7 @@ use Rattle.refusals.specs.declared.answer.AnswerF64.{AnswerF64}
 use Rattle.algorithms.specs.declared.ewma.DualEwma.{DualEwma}
 use Rattle.algorithms.specs.declared.ewma.EwmaUpdate.{EwmaUpdate}
 
--- document 01, State rule: trends are 0 to 2^64, none NaN
+-- document 01, "State rule": trends are 0 to 2^64, none NaN
 unfoldable pub keepsRule : DualEwma → Bool
 keepsRule s = trendOk (s .short) && trendOk (s .long)
 
@@ -31,11 +31,11 @@ moved true short long x = record { short = step binary64 ewmaShortAlpha short x;
 unfoldable pub stepped : DualEwma → Float → DualEwma
 stepped s x = moved (s .initialized) (s .short) (s .long) x
 
--- document 01, the checks: question 1 alone
+-- document 01, question 1 alone
 unfoldable pub refusalOf : DualEwma → ℕ
 refusalOf s = firstNo (question 1 (keepsRule s) ∷ [])
 
--- document 01, the checks: questions 1 and 11
+-- document 01, questions 1 and 11
 unfoldable pub updateRefusal : DualEwma → Float → ℕ
 updateRefusal s x = firstNo (question 1 (keepsRule s) ∷ question 11 (trendOk x) ∷ [])
 

@@ -12,11 +12,11 @@ use Rattle.refusals.specs.declared.answer.AnswerU32.{AnswerU32}
 use Rattle.algorithms.specs.declared.jitter.JitterEstimator.{JitterEstimator}
 use Rattle.algorithms.specs.declared.jitter.JitterUpdate.{JitterUpdate}
 
--- document 01, State rule: scaled jitter is 0 to 2^35
+-- document 01, "State rule": scaled jitter is 0 to 2^35
 abbrev pub keepsRule : JitterEstimator → Bool
 keepsRule s = leZ (pos 0) (s .«jitter_q4») && leZ (s .«jitter_q4») (pos (2 ^ 35))
 
--- document 01, the checks: question 1 alone
+-- document 01, question 1 alone
 unfoldable pub refusalOf : JitterEstimator → ℕ
 refusalOf s = firstNo (question 1 (keepsRule s) ∷ [])
 

@@ -12,7 +12,7 @@ use Rattle.refusals.specs.Ranges.{delayOk}
 use Rattle.algorithms.specs.declared.owd.OwdTrendDetector.{OwdTrendDetector}
 use Rattle.algorithms.specs.declared.owd.OwdUpdate.{OwdUpdate}
 
--- ---- the rule: document 01, State rule
+-- ---- the rule: document 01, "State rule"
 -- "Capacity is clamped to 2 to 256, and the state rule follows": document 02, W-202
 abbrev pub capacityOk : OwdTrendDetector → Bool
 capacityOk s = leb minOwdWindowSize (s .capacity) && leb (s .capacity) maxOwdWindowSize
@@ -62,7 +62,7 @@ pairs (t ∷ ts) (d ∷ ds) = record { at-ms = t; owd-us = d } ∷ pairs ts ds
 abbrev pub live : {A : Type 0} → OwdTrendDetector → List A → List A
 live s xs = take (s .count) (drop (s .first) (xs ++ xs))
 
--- the live pairs, oldest first: document 01, Rust forms, `VecDeque` of pairs
+-- the live pairs, oldest first: document 01, "Rust forms", `VecDeque` of pairs
 unfoldable pub window : OwdTrendDetector → List ℕ → List ℤ → List Pair
 window s times delays = pairs (live s times) (live s delays)
 
@@ -80,7 +80,7 @@ empty capacity = record { capacity = capacity; count = 0; first = 0 }
 unfoldable pub newOf : ℕ → OwdTrendDetector
 newOf capacity = empty (max minOwdWindowSize (min capacity maxOwdWindowSize))
 
--- the state after a call, or the state as given beside a refusal: document 01, Before any figure
+-- the state after a call, or the state as given beside a refusal: document 01, "Before any figure: the checks"
 abbrev pub chosen : Bool → OwdTrendDetector → OwdTrendDetector → OwdTrendDetector
 chosen true after given = after
 chosen false after given = given
@@ -89,11 +89,11 @@ chosen false after given = given
 abbrev pub update : ℕ → OwdTrendDetector → OwdTrendDetector → OwdUpdate
 update refusal after given = record { refusal = refusal; state = chosen (eqb refusal 0) after given }
 
--- "Clearing sets count and first slot to 0 and writes no slot": document 01, Jitter, delay trend and bursts
+-- "Clearing sets count and first slot to 0 and writes no slot": document 01, "Jitter, delay trend and bursts"
 unfoldable pub clearAnswer : OwdTrendDetector → OwdUpdate
 clearAnswer s = update (firstNo (question 1 (keepsRule s) ∷ [])) (empty (s .capacity)) s
 
--- ---- a push: "A full window drops its oldest pair": document 01, Jitter, delay trend and bursts
+-- ---- a push: "A full window drops its oldest pair": document 01, "Jitter, delay trend and bursts"
 -- the slot n after this one, counted past the ring's end again from slot 0
 abbrev pub onward : ℕ → ℕ → ℕ → ℕ
 onward capacity slot n = cond (ltb n (capacity - slot)) (slot + n) (n - (capacity - slot))

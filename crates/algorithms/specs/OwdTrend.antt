@@ -1,4 +1,4 @@
--- The delay trend, float for float: document 01, Jitter, delay trend and bursts; algorithms.rs, `trend_us_per_sec`. Definitions only.
+-- The delay trend, float for float: document 01, "Jitter, delay trend and bursts"; algorithms.rs, `trend_us_per_sec`. Definitions only.
 use Prim.Native.Nat.{ℕ}
 use mathlib.Core.Bool.{cond}
 use mathlib.Core.List.{List, [], _∷_}

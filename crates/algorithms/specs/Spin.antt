@@ -13,7 +13,7 @@ use Rattle.algorithms.specs.declared.spin.SpinBitState.{SpinBitState}
 use Rattle.algorithms.specs.declared.spin.SpinUpdate.{SpinUpdate}
 use Rattle.algorithms.specs.declared.spin.SpinObserved.{SpinObserved}
 
--- document 01, State rule: the last edge, a clock field, obeys question 2
+-- document 01, "State rule": the last edge, a clock field, obeys question 2
 unfoldable pub keepsRule : SpinBitState → Bool
 keepsRule s = optionalClockOk (s .«last_edge_ms»)
 
@@ -21,11 +21,11 @@ keepsRule s = optionalClockOk (s .«last_edge_ms»)
 abbrev pub fresh : Bool → SpinBitState
 fresh role = record { «is_initiator» = role; «current_value» = false; «highest_counter_for_spin» = 0; «last_edge_ms» = None }
 
--- document 01, the checks: question 1 alone
+-- document 01, question 1 alone
 unfoldable pub refusalOf : SpinBitState → ℕ
 refusalOf s = firstNo (question 1 (keepsRule s) ∷ [])
 
--- document 01, the checks: questions 1 and 2, the clock of a responder too
+-- document 01, questions 1 and 2, the clock of a responder too
 unfoldable pub observeRefusal : SpinBitState → ℕ → ℕ
 observeRefusal s now = firstNo (question 1 (keepsRule s) ∷ question 2 (clockOk now) ∷ [])
 

@@ -14,7 +14,7 @@ use Rattle.refusals.specs.declared.answer.AnswerI64.{AnswerI64}
 use Rattle.algorithms.specs.declared.srtt.SrttEstimator.{SrttEstimator}
 use Rattle.algorithms.specs.declared.srtt.SrttUpdate.{SrttUpdate}
 
--- document 01, State rule: SRTT and RTTVAR are 0 to 2^42, as a round trip is
+-- document 01, "State rule": SRTT and RTTVAR are 0 to 2^42, as a round trip is
 unfoldable pub keepsRule : SrttEstimator → Bool
 keepsRule s = roundTripOk (s .«srtt_us») && roundTripOk (s .«rttvar_us»)
 
@@ -35,11 +35,11 @@ fresh = holding no-estimate
 unfoldable pub stepped : SrttEstimator → ℤ → SrttEstimator
 stepped s r = holding (estimateStep (estimateIn s) (asUnsigned r))
 
--- document 01, the checks: question 1 alone
+-- document 01, question 1 alone
 unfoldable pub refusalOf : SrttEstimator → ℕ
 refusalOf s = firstNo (question 1 (keepsRule s) ∷ [])
 
--- document 01, the checks: questions 1 and 8
+-- document 01, questions 1 and 8
 unfoldable pub updateRefusal : SrttEstimator → ℤ → ℕ
 updateRefusal s r = firstNo (question 1 (keepsRule s) ∷ question 8 (roundTripOk r) ∷ [])
 

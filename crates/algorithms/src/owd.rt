@@ -57,7 +57,7 @@ fn put_delay(delays: &mut [i64], slot: usize, owd_us: i64)
 }
 
 impl OwdTrendDetector {
-    // The rule of document 01 for a window.
+    // The rule of a window (document 01, "State rule").
     pub fn keeps_rule(self) -> bool
         ensures { λ r. ⌜ r ≡ keepsRule self ⌝ }
     {

@@ -1,4 +1,4 @@
-// SRTT estimator (Jacobson, RFC 6298).
+// SRTT estimator (Jacobson, RFC 6298, section 2).
 
 ghost use mathlib.Core.Path.{_≡_};
 ghost use Rattle.algorithms.specs.Srtt.{keepsRule, refusalOf, fresh, stepped, updateOf, srttUsOf, rttvarUsOf, initializedOf};

@@ -1,4 +1,4 @@
--- What `Reader`'s methods answer (codec.rs; document 01, check 7), over the bytes of the payload and the place. Definitions only.
+-- What `Reader`'s methods answer (codec.rs; document 01, question 7), over the bytes of the payload and the place. Definitions only.
 use Prim.Native.Nat.{ℕ, _+_, _-_, _^_, min}
 use mathlib.Core.Bool.{Bool, cond}
 use mathlib.Core.List.{List}

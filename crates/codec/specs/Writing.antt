@@ -1,4 +1,4 @@
--- What `Writer`'s methods answer (codec.rs; document 01, check 6), over the bytes of the lent buffer and the place. Definitions only.
+-- What `Writer`'s methods answer (codec.rs; document 01, question 6), over the bytes of the lent buffer and the place. Definitions only.
 use Prim.Native.Nat.{ℕ}
 use mathlib.Core.Bool.{cond}
 use mathlib.Core.List.{List}

@@ -1,4 +1,4 @@
-// Document 01's table, the rows of the averages.
+// The table of document 01, "Promises and the checked examples": the rows of the averages.
 use crate::lines::holds;
 use crate::lines::number;
 use numbers::jitter_step;

@@ -1,4 +1,4 @@
-// Document 01's table, the rows of the counters, as document 02 leaves them; and gaps about 65535.
+// The table of document 01, "Promises and the checked examples": the rows of the counters, one of them as document 02, W-201, has it; and gaps about 65535.
 use crate::lines::holds;
 use crate::lines::number;
 use gaps::GapTracker;

@@ -1,4 +1,4 @@
-// Document 01's table, the rows of the estimators, and refused calls beside them.
+// The table of document 01, "Promises and the checked examples": the rows of the estimators, and refused calls beside them.
 use crate::lines::holds;
 use crate::lines::number;
 use algorithms::etx::compute_etx;

@@ -6,7 +6,7 @@ pub fn heading(text: &[u8]) {
     io::write_all(STDOUT_FILENO, text);
 }
 
-// One example: its name, what came out and what document 01 says.
+// One example: its name, what came out and what the rules say.
 pub fn number(name: &[u8], got: u64, said: u64) {
     if got == said {
         io::write_all(STDOUT_FILENO, b"ok    ");

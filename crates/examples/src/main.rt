@@ -1,4 +1,4 @@
-// The worked examples of document 01, run and compared. A line for each: ok or WRONG, what it is, what came out.
+// The worked examples of document 01, "Promises and the checked examples", and more, run and compared. A line for each: ok or WRONG, what it is, what came out.
 mod averages;
 mod bursts;
 mod delays;

@@ -47,7 +47,7 @@ fn floats() {
     holds(b"trend sample NaN is not", !trend_ok(nan));
 }
 
-// Two "no": the first in document 01's order refuses.
+// Two "no": the first in the order of document 01, "Before any figure: the checks", refuses.
 pub fn order() {
     let mut q = Questions::all_yes();
     number(b"eleven yeses", q.first_no() as u64, 0);

@@ -1,4 +1,4 @@
--- Smoothed goodput in bytes per second: document 01, the state rule, and metrics.rs. Each operation is rounded once. Definitions only.
+-- Smoothed goodput in bytes per second: document 01, "State rule", and metrics.rs. Each operation is rounded once. Definitions only.
 use mathlib.Core.Bool.{Bool, cond}
 use Prim.Native.Nat.{ℕ, _-_}
 use lib.IntN.{pos}
@@ -7,11 +7,11 @@ use Rattle.floats.specs.Operations.{zero-float, float, one-quarter, inRange, th
 use Rattle.refusals.specs.declared.option.OptionU64.{OptionU64}
 use Rattle.refusals.specs.declared.option.OptionU64.the-variants.{None, Some}
 
--- document 01, State rule: goodput is at most 2^74
+-- document 01, "State rule": goodput is at most 2^74
 abbrev pub maxGoodput : Float
 maxGoodput = float 1 74
 
--- document 01, State rule: "goodput 0 to 2^74"
+-- document 01, "State rule": "goodput 0 to 2^74"
 abbrev pub goodputOk : Float → Bool
 goodputOk = inRange zero-float maxGoodput
 

@@ -4,7 +4,7 @@ use mathlib.Core.Bool.{Bool, false, cond, _&&_}
 use lib.IntN.{pos, negsuc}
 use lib.Ieee.{Float, fin, Format, add, sub, mul, div, lt, le, ofInt}
 
--- 0.0 and 1.0, where the range of a ratio ends: document 01, Before any figure, question 11.
+-- 0.0 and 1.0, where the range of a ratio ends: document 01, question 11.
 abbrev pub zero-float : Float
 zero-float = fin false 0 (pos 0)
 
@@ -27,11 +27,11 @@ weight k = fin false 1 (negsuc k)
 abbrev pub one-quarter : Float
 one-quarter = weight 1
 
--- x is from lo to hi, and no NaN: document 01, Before any figure, question 11.
+-- x is from lo to hi, and no NaN: document 01, question 11.
 abbrev pub inRange : Float → Float → Float → Bool
 inRange lo hi x = le lo x && le x hi
 
--- x, or the end of lo to hi that it lies beyond: document 01, Rust forms, `clamp`.
+-- x, or the end of lo to hi that it lies beyond: document 01, "Rust forms", `clamp`.
 unfoldable pub clamped : Float → Float → Float → Float
 clamped lo hi x = cond (lt x lo) lo (cond (lt hi x) hi x)
 
@@ -39,7 +39,7 @@ clamped lo hi x = cond (lt x lo) lo (cond (lt hi x) hi x)
 unfoldable pub lesser : Float → Float → Float
 lesser x y = cond (lt x y) x y
 
--- s moved toward x by the part a of their difference, each operation rounded once: document 01, Round trip, ratios and trends.
+-- s moved toward x by the part a of their difference, each operation rounded once: document 01, "Round trip, ratios and trends".
 unfoldable pub step : Format → Float → Float → Float → Float
 step f a s x = add f s (mul f a (sub f x s))
 
@@ -47,6 +47,6 @@ step f a s x = add f s (mul f a (sub f x s))
 unfoldable pub complement : Format → Float → Float
 complement f x = sub f one-float x
 
--- a / b, each integer rounded once to nearest and then their quotient: document 01, Round trip, ratios and trends.
+-- a / b, each integer rounded once to nearest and then their quotient: document 01, "Round trip, ratios and trends".
 unfoldable pub rounded-quotient : Format → ℕ → ℕ → Float
 rounded-quotient f a b = div f (ofInt f (pos a)) (ofInt f (pos b))

@@ -19,7 +19,7 @@ maxLength = 2 ^ 16 - 1
 abbrev pub maxCounter : ℕ
 maxCounter = 2 ^ 64 - 1
 
--- ---- the rule: document 01, State rule
+-- ---- the rule: document 01, "State rule"
 -- the finished bursts: the count, less one inside a burst
 unfoldable pub finishedBursts : GapTracker → ℕ
 finishedBursts t = cond (t .«in_burst») (t .«burst_count» - 1) (t .«burst_count»)

@@ -1,4 +1,4 @@
--- An RTT log entry carries what document 01 says of it.
+-- An RTT log entry carries what document 01, "Round trip, ratios and trends", says.
 use mathlib.Core.Path.{_≡_, refl, sym, ap, _∙_}
 use mathlib.Core.Bool.{Bool}
 use Prim.Native.Nat.{ℕ}

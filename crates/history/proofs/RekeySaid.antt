@@ -1,4 +1,4 @@
--- A rekey does to a metrics record what document 01 says of it.
+-- A rekey does to a metrics record what document 01, "Round trip, ratios and trends", says.
 use mathlib.Core.Path.{refl}
 use lib.Ieee.{ofInt}
 use Rattle.metrics.specs.Updates.{rekeyed, rekeyOf}

@@ -1,4 +1,4 @@
--- Two ends, each with a sender, a receiver and a metrics record, and the calls on them: document 01, "A history in demand 3 is its list of calls".
+-- Two ends, each with a sender, a receiver and a metrics record, and the calls on them: document 01, "A history in demand 3".
 -- Definitions only.
 use mathlib.Core.List.{List, [], _∷_}
 use Rattle.sender.specs.declared.SenderState.{SenderState}

@@ -1,5 +1,5 @@
 -- The delay differences that the frames of a receiver give to jitter, read off the arguments of the calls that were not refused, and no record: document 01,
--- "Jitter, delay trend and bursts" and "The exact averages round nothing". Definitions only.
+-- "Jitter, delay trend and bursts" and "The exact averages". Definitions only.
 use mathlib.Core.Bool.{Bool, true, false, cond}
 use mathlib.Core.List.{List, [], _∷_, _++_}
 use Prim.Native.Nat.{ℕ, _+_, _-_, _%_, _^_}

@@ -1,5 +1,5 @@
 -- The round trips that the calls on a metrics record take, the report kept for the stale test, and the reports processed, each read off the arguments of the
--- calls that were not refused, and no record: document 01, "Round trip, ratios and trends" and "The exact averages round nothing". Definitions only.
+-- calls that were not refused, and no record: document 01, "Round trip, ratios and trends" and "The exact averages". Definitions only.
 use mathlib.Core.Bool.{Bool, true, false, cond, _&&_, _||_}
 use mathlib.Core.List.{List, [], _∷_, _++_}
 use Prim.Native.Nat.{ℕ, _+_, _-_}

@@ -1,4 +1,4 @@
--- The numbers that the statement takes from document 01, and from document 02 where a request has changed one, written here anew: no constant that the code is held against stands behind them. Definitions only.
+-- The numbers that the statement takes from the rules (docs/RULES.md), written here anew: no constant that the code is held against stands behind them. Definitions only.
 use Prim.Native.Nat.{ℕ, _-_, _^_}
 
 -- ---- "Before any figure: the checks"

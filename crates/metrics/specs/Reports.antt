@@ -145,7 +145,7 @@ unfoldable pub processed : MmpMetrics → ReceiverReport → ℕ → ℕ → Rep
 processed m rr ours now = cond (stale (savedIn m) rr) (staleReport m) (newerReport m rr ours now)
 
 -- ---- after the questions
--- document 01, the checks: questions 1, 2 and 10. 8 is not asked: each round trip here is in its range
+-- document 01, questions 1, 2 and 10. 8 is not asked: each round trip here is in its range
 unfoldable pub processRefusal : MmpMetrics → ℕ → ℕ
 processRefusal m now = firstNo (question 1 (keepsRule m) ∷ question 2 (clockOk now) ∷ question 10 (counterOk 64 (m .«reports_seen») 1) ∷ [])
 

@@ -1,4 +1,4 @@
--- The metrics' record, its rule and what a new one holds: document 01, the state rule, and metrics.rs. Definitions only.
+-- The metrics' record, its rule and what a new one holds: document 01, "State rule", and metrics.rs. Definitions only.
 use mathlib.Core.Bool.{Bool, false, cond, _&&_}
 use mathlib.Core.List.{[], _∷_}
 use Prim.Native.Nat.{ℕ}
@@ -17,7 +17,7 @@ use Rattle.metrics.specs.Fields.{countersIn}
 use Rattle.metrics.specs.declared.MmpMetrics.{MmpMetrics}
 use Rattle.metrics.specs.declared.MetricsUpdate.{MetricsUpdate}
 
--- ---- the rule: document 01, State rule
+-- ---- the rule: document 01, "State rule"
 -- the five trends are 0 to 2^64
 unfoldable pub trendsOk : MmpMetrics → Bool
 trendsOk m =
@@ -83,7 +83,7 @@ unfoldable pub savedIn : MmpMetrics → Saved
 savedIn m = cond (m .«has_prev_rr») (saved (countersIn m)) none
 
 -- ---- calls
--- document 01, the checks: question 1 alone
+-- document 01, question 1 alone
 unfoldable pub refusalOf : MmpMetrics → ℕ
 refusalOf m = firstNo (question 1 (keepsRule m) ∷ [])
 

@@ -11,7 +11,7 @@ use Rattle.limits.specs.Limits.{maxReportInterval}
 use Rattle.pace.specs.Intervals.{floorAt, updateCounted, nextInterval}
 use Rattle.pace.specs.declared.Paced.{Paced}
 
--- document 01, the checks of a cold-start interval: question 2 alone
+-- document 01, "Before any figure: the checks" of a cold-start interval: question 2 alone
 unfoldable pub coldStartRefusal : ℕ → ℕ
 coldStartRefusal ms = firstNo (question 2 (clockOk ms) ∷ [])
 
@@ -24,7 +24,7 @@ updated n multiple interval count srtt lo hi updates =
       «srtt_sample_count» = cond (eqb n 0) updates count;
     }
 
--- document 01, the checks: questions 1 and 8. A value of 0 or less passes 8
+-- document 01, questions 1 and 8. A value of 0 or less passes 8
 unfoldable pub fromSrttRefusal : Bool → ℤ → ℕ
 fromSrttRefusal ok srtt = firstNo (question 1 ok ∷ question 8 (smoothedOk srtt) ∷ [])
 
@@ -32,7 +32,7 @@ fromSrttRefusal ok srtt = firstNo (question 1 ok ∷ question 8 (smoothedOk srtt
 unfoldable pub fromSrtt : Bool → ℕ → ℕ → ℕ → ℤ → Paced
 fromSrtt ok multiple interval count srtt = updated (fromSrttRefusal ok srtt) multiple interval count srtt (floorAt (updateCounted count)) maxReportInterval (updateCounted count)
 
--- document 01, the checks: questions 1, 2 of both bounds, 8 and 9
+-- document 01, questions 1, 2 of both bounds, 8 and 9
 unfoldable pub withBoundsRefusal : Bool → ℤ → ℕ → ℕ → ℕ
 withBoundsRefusal ok srtt lo hi = firstNo (question 1 ok ∷ question 2 (clockOk lo && clockOk hi) ∷ question 8 (smoothedOk srtt) ∷ question 9 (boundsOk srtt lo hi) ∷ [])
 

@@ -132,7 +132,7 @@ delaysAfter s delays timestamp now sampled = cond (pushes s now sampled) (set de
 abbrev pub sampleOk : ReceiverState → ℕ → ℕ → Bool → Bool
 sampleOk s timestamp now sampled = not (pushes s now sampled) || delayOk (delayOf (s .«owd_ref») timestamp now)
 
--- document 01, the checks: questions 1, 2, 3, 4, 5 and 10
+-- document 01, questions 1, 2, 3, 4, 5 and 10
 unfoldable pub frameRefusal : ReceiverState → List ℕ → List ℤ → ℕ → ℕ → ℕ → ℕ → Bool → ℕ
 frameRefusal s times delays counter timestamp bytes now sampled =
     firstNo (

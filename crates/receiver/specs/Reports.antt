@@ -82,7 +82,7 @@ someBuilt s trend now = record { refusal = 0; some = true; report = reportOf s (
 unfoldable pub built : ReceiverState → ℤ → ℕ → ReceiverReportBuilt
 built s trend now = cond (s .«interval_has_data») (someBuilt s trend now) (noneBuilt 0 s)
 
--- document 01, the checks: questions 1, 2, 4, and 5 of every live sample, also where no report comes
+-- document 01, questions 1, 2, 4, and 5 of every live sample, also where no report comes
 unfoldable pub reportRefusal : ReceiverState → List ℕ → List ℤ → ℕ → ℕ
 reportRefusal s times delays now =
     firstNo (

@@ -1,4 +1,4 @@
--- A receiver's record, its rule and its fields: document 01, the state rule, and receiver.rs. Definitions only.
+-- A receiver's record, its rule and its fields: document 01, "State rule", and receiver.rs. Definitions only.
 use mathlib.Core.Bool.{Bool, true, false, cond, _&&_}
 use mathlib.Core.List.{[], _∷_}
 use Prim.Native.Nat.{ℕ, _+_}
@@ -22,7 +22,7 @@ use Rattle.receiver.specs.declared.ReceiverState.{ReceiverState}
 use Rattle.receiver.specs.declared.ReceiverNew.{ReceiverNew}
 use Rattle.receiver.specs.declared.ReceiverUpdate.{ReceiverUpdate}
 
--- ---- the rule: document 01, State rule
+-- ---- the rule: document 01, "State rule"
 -- "a grace deadline may be 15,000 ms higher"
 abbrev pub grace : ℕ
 grace = 15000
@@ -87,11 +87,11 @@ unfoldable pub newOf : ℕ → ℕ → ReceiverNew
 newOf window ms = record { refusal = coldStartRefusal ms; state = cond (eqb (coldStartRefusal ms) 0) (startedAt window ms) fresh }
 
 -- ---- calls
--- document 01, the checks: question 1 alone
+-- document 01, question 1 alone
 unfoldable pub refusalOf : ReceiverState → ℕ
 refusalOf s = firstNo (question 1 (keepsRule s) ∷ [])
 
--- document 01, the checks: questions 1 and 2
+-- document 01, questions 1 and 2
 unfoldable pub clockRefusal : ReceiverState → ℕ → ℕ
 clockRefusal s now = firstNo (question 1 (keepsRule s) ∷ question 2 (clockOk now) ∷ [])
 

@@ -1,4 +1,4 @@
--- What an accessor answers: document 01, the checks, "other result fields are zero, no or none". Definitions only.
+-- What an accessor answers: document 01, "Before any figure: the checks", "other result fields are zero, no or none". Definitions only.
 use mathlib.Core.Bool.{Bool, cond, _&&_}
 use Prim.Native.Nat.{ℕ}
 use lib.Dec.{eqb}

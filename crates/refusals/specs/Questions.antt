@@ -4,7 +4,7 @@ use mathlib.Core.List.{List, [], _∷_}
 use Prim.Native.Nat.{ℕ}
 use Rattle.refusals.specs.declared.questions.Questions.{Questions}
 
--- a question of document 01's list: its number, and whether its answer is yes
+-- a question: its number, and whether its answer is yes
 pub record Question : Type 0 where
   pub number : ℕ
   pub answer : Bool
@@ -18,7 +18,7 @@ unfoldable pub firstNo : List Question → ℕ
 firstNo [] = 0
 firstNo (q ∷ qs) = cond (q .answer) (firstNo qs) (q .number)
 
--- document 01's eleven, in its order
+-- the eleven of document 01, "Before any figure: the checks", in its order
 unfoldable pub asked : Questions → List Question
 asked q =
     question 1 (q .state)

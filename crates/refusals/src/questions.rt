@@ -3,7 +3,7 @@
 ghost use mathlib.Core.Path.{_≡_};
 ghost use Rattle.refusals.specs.Questions.{firstNo, asked, allYes};
 
-// The answers to document 01's questions, in its order. A question that a call doesn't have stays true.
+// The answers to the questions of document 01, "Before any figure: the checks", in its order. A question that a call doesn't have stays true.
 pub struct Questions {
     // 1. The state keeps its rule.
     pub state: bool,

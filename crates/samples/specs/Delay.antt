@@ -15,7 +15,7 @@ use Rattle.samples.specs.declared.delay.OwdReference.the-variants.{None,
 use Rattle.samples.specs.declared.delay.OwdBase.{OwdBase}
 use Rattle.samples.specs.declared.delay.OwdSampled.{OwdSampled}
 
--- document 01, State rule: "the OWD reference is absent or a valid pair", its clock in range
+-- document 01, "State rule": "the OWD reference is absent or a valid pair", its clock in range
 abbrev pub referenceOk : OwdReference → Bool
 referenceOk None = true
 referenceOk (Some recv timestamp) = clockOk recv
@@ -75,7 +75,7 @@ unfoldable pub pushed : OwdTrendDetector → OwdReference → ℕ → OwdTrendDe
 pushed w r now = grown (windowFor w r now)
 
 -- ---- the call by itself
--- document 01, the checks: question 1 of the window and the reference, 2, 4, and 5 of the sample
+-- document 01, question 1 of the window and the reference, 2, 4, and 5 of the sample
 unfoldable pub sampleRefusal : OwdTrendDetector → OwdReference → List ℕ → List ℤ → ℕ → ℕ → ℕ
 sampleRefusal w r times delays timestamp now =
     firstNo (

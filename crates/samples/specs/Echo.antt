@@ -1,4 +1,4 @@
--- The echo of a report: document 01, the examples' dwell row, and receiver.rs, `build_report`. Definitions only.
+-- The echo of a report: document 01, "Promises and the checked examples", the row of the dwell, and receiver.rs, `build_report`. Definitions only.
 use mathlib.Core.Bool.{cond}
 use Prim.Native.Nat.{ℕ, _-_, _^_}
 use lib.Dec.{leb}

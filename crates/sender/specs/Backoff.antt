@@ -49,7 +49,7 @@ withFailures s n =
       «srtt_sample_count» = s .«srtt_sample_count»;
     }
 
--- document 01, the checks: questions 1 and 10
+-- document 01, questions 1 and 10
 unfoldable pub failureRefusal : SenderState → ℕ
 failureRefusal s = firstNo (question 1 (keepsRule s) ∷ question 10 (counterOk 32 (s .«consecutive_send_failures») 1) ∷ [])
 

@@ -11,7 +11,7 @@ use Rattle.sender.specs.State.{keepsRule}
 use Rattle.sender.specs.declared.SenderState.{SenderState}
 use Rattle.sender.specs.declared.reports.SenderReportBuilt.{SenderReportBuilt}
 
--- document 01, the checks: questions 1 and 2, the clock also where no report comes
+-- document 01, questions 1 and 2, the clock also where no report comes
 unfoldable pub reportRefusal : SenderState → ℕ → ℕ
 reportRefusal s now = firstNo (question 1 (keepsRule s) ∷ question 2 (clockOk now) ∷ [])
 

@@ -1,4 +1,4 @@
--- A frame is sent, as sender.rs counts it behind document 01's checks. Definitions only.
+-- A frame is sent, as sender.rs counts it, behind document 01, questions 1, 3 and 10. Definitions only.
 use mathlib.Core.Bool.{Bool, true, cond, _&&_}
 use mathlib.Core.List.{[], _∷_}
 use Prim.Native.Nat.{ℕ, _+_, _-_, _^_, min}
@@ -58,7 +58,7 @@ sent s counter timestamp bytes = counted (opened s counter timestamp) counter ti
 abbrev pub countersOk : SenderState → ℕ → Bool
 countersOk s bytes = counterOk 64 (s .«cumulative_packets_sent») 1 && counterOk 64 (s .«cumulative_bytes_sent») bytes
 
--- document 01, the checks: questions 1, 3 and 10
+-- document 01, questions 1, 3 and 10
 unfoldable pub sentRefusal : SenderState → ℕ → ℕ
 sentRefusal s bytes = firstNo (question 1 (keepsRule s) ∷ question 3 (frameSizeOk bytes) ∷ question 10 (countersOk s bytes) ∷ [])
 

@@ -1,4 +1,4 @@
--- A sender's record, its rule and its fields: document 01, the state rule and "Reports due". Definitions only.
+-- A sender's record, its rule and its fields: document 01, "State rule" and "Reports due". Definitions only.
 use mathlib.Core.Bool.{Bool, false, cond, not, _&&_, _||_}
 use mathlib.Core.List.{[], _∷_}
 use Prim.Native.Nat.{ℕ}
@@ -18,7 +18,7 @@ use Rattle.sender.specs.declared.SenderUpdate.{SenderUpdate}
 abbrev pub lastReportOk : SenderState → Bool
 lastReportOk s = not (s .«has_last_report») || clockOk (s .«last_report_ms»)
 
--- document 01, State rule: the clock field and the report interval obey question 2
+-- document 01, "State rule": the clock field and the report interval obey question 2
 unfoldable pub keepsRule : SenderState → Bool
 keepsRule s = lastReportOk s && clockOk (s .«report_interval_ms»)
 
@@ -49,7 +49,7 @@ fresh = startedAt defaultColdStartInterval
 unfoldable pub newOf : ℕ → SenderNew
 newOf ms = record { refusal = coldStartRefusal ms; state = cond (eqb (coldStartRefusal ms) 0) (startedAt ms) fresh }
 
--- document 01, the checks: question 1 alone
+-- document 01, question 1 alone
 unfoldable pub refusalOf : SenderState → ℕ
 refusalOf s = firstNo (question 1 (keepsRule s) ∷ [])
 

@@ -1,4 +1,4 @@
--- THE BYTES OF A REPORT are those of document 01's fields, in its order, and decoding them gives the report.
+-- THE BYTES OF A REPORT are those of the fields of document 01, "Report bytes", in its order, and decoding them gives the report.
 use Prim.Native.Nat.{ℕ, zero, suc, _+_, _/_, _%_, _^_}
 use mathlib.Core.Path.{_≡_, refl, sym, ap, ap₂, _∙_}
 use mathlib.Core.List.{List, [], _∷_, _++_}

@@ -1,4 +1,4 @@
--- THE INTERVALS BETWEEN REPORTS are document 01's: its multiples, its floors, its top, and its doublings.
+-- THE INTERVALS BETWEEN REPORTS are those of document 01, "Reports due": its multiples, floors, top and doublings.
 use Prim.Native.Nat.{ℕ, zero, suc, _+_, _-_, _*_, _/_, _^_, _≤_, _<_, min, max}
 use mathlib.Core.Path.{_≡_, refl, ap}
 use mathlib.Core.Bool.{Bool, true, false, cond, _&&_}

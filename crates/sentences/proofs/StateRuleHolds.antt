@@ -1,4 +1,4 @@
--- THE RULE that question 1 asks of each record is document 01's, clause by clause.
+-- THE RULE that question 1 asks of each record is that of document 01, "State rule", clause by clause.
 use mathlib.Core.Path.{_≡_, refl, _∙_}
 use native.Mathlib.Omega.{arith}
 use mathlib.Core.Bool.{true}

@@ -1,4 +1,4 @@
--- The payload check (document 01, check 7): the status, and the two lengths by out-parameters, which are written only beside a 7. Definitions only.
+-- The payload check (document 01, question 7): the status, and the two lengths by out-parameters, which are written only beside a 7. Definitions only.
 use Prim.Native.Nat.{ℕ}
 use mathlib.Core.List.{List}
 use Rattle.codec.specs.Reading.{lengthAnswer, valuesOf, byLength}

@@ -7,7 +7,7 @@ use lib.IntN.{ℤ}
 use lib.Ieee.{Float, eq}
 use lib.Signed.{leZ}
 
--- what the definitions give beside what document 01 says: a whole number, a signed one, a float
+-- what the definitions give beside what the table says: a whole number, a signed one, a float
 pub data Cell : Type 0 where
   whole : ℕ → ℕ → Cell
   signed : ℤ → ℤ → Cell

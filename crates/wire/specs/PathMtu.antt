@@ -1,4 +1,4 @@
--- PathMtuNotification, 2 bytes (mmp/wire.rs; document 01's checks 6 and 7 at its length). Definitions only.
+-- PathMtuNotification, 2 bytes (mmp/wire.rs; document 01, questions 6 and 7 at its length). Definitions only.
 use Prim.Native.Nat.{ℕ}
 use mathlib.Core.List.{List}
 use Rattle.codec.specs.LittleEndian.{leBytes, fieldAt}
@@ -17,7 +17,7 @@ notification mtu = record { «path_mtu» = mtu }
 unfoldable pub encoded : PathMtuNotification → List ℕ
 encoded n = leBytes 2 (n .«path_mtu»)
 
--- document 01, check 6: 2 bytes of room
+-- document 01, question 6: 2 bytes of room
 abbrev pub encodeAnswer : List ℕ → ℕ
 encodeAnswer out = roomAnswer 2 out
 
@@ -25,7 +25,7 @@ encodeAnswer out = roomAnswer 2 out
 abbrev pub encodedInto : List ℕ → PathMtuNotification → List ℕ
 encodedInto out n = writtenInto out (encoded n)
 
--- document 01, check 7: the number and the lengths of a length answer, with the notification where the body is long enough, else one of 0
+-- document 01, question 7: the number and the lengths of a length answer, with the notification where the body is long enough, else one of 0
 unfoldable pub decodedBy : Length → PathMtuNotification → PathMtuDecoded
 decodedBy answer n = record {
   refusal = valuesOf answer .refusal;

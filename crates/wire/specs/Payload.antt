@@ -1,4 +1,4 @@
--- What every message shares: it is written whole or not at all (document 01, check 6), and which bytes of two payloads are the same. Definitions only.
+-- What every message shares: it is written whole or not at all (document 01, question 6), and which bytes of two payloads are the same. Definitions only.
 use Prim.Native.Nat.{ℕ, _≤_, _<_}
 use mathlib.Core.Path.{_≡_}
 use mathlib.Core.Bool.{cond}

@@ -34,7 +34,7 @@ encoded r =
     ++ leBytes 4 (r .«interval_packets_recv»)
     ++ leBytes 4 (r .«interval_bytes_recv»)
 
--- document 01, check 6: 68 bytes of room
+-- document 01, question 6: 68 bytes of room
 abbrev pub encodeAnswer : List ℕ → ℕ
 encodeAnswer out = roomAnswer 68 out
 
@@ -80,7 +80,7 @@ noReport = record {
   «interval_bytes_recv» = 0;
 }
 
--- document 01, check 7: the number and the lengths of a length answer, with the report where the payload is long enough, else none
+-- document 01, question 7: the number and the lengths of a length answer, with the report where the payload is long enough, else none
 unfoldable pub decodedBy : Length → ReceiverReport → ReceiverReportDecoded
 decodedBy answer r = record {
   refusal = valuesOf answer .refusal;

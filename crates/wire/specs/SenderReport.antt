@@ -22,7 +22,7 @@ encoded r =
     ++ leBytes 8 (r .«cumulative_packets_sent»)
     ++ leBytes 8 (r .«cumulative_bytes_sent»)
 
--- document 01, check 6: 48 bytes of room
+-- document 01, question 6: 48 bytes of room
 abbrev pub encodeAnswer : List ℕ → ℕ
 encodeAnswer out = roomAnswer 48 out
 
@@ -54,7 +54,7 @@ noReport = record {
   «cumulative_bytes_sent» = 0;
 }
 
--- document 01, check 7: the number and the lengths of a length answer, with the report where the payload is long enough, else none
+-- document 01, question 7: the number and the lengths of a length answer, with the report where the payload is long enough, else none
 unfoldable pub decodedBy : Length → SenderReport → SenderReportDecoded
 decodedBy answer r = record {
   refusal = valuesOf answer .refusal;

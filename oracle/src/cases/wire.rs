@@ -73,7 +73,7 @@ pub fn receiver_fields(r: &ReceiverReport) -> [u64; 14] {
     ]
 }
 
-/// What is written over the start of the buffer. The commit makes the bytes up itself: a buffer that is too short is document 01's to refuse.
+/// What is written over the start of the buffer. The commit makes the bytes up itself: a buffer that is too short is refused by document 01, question 6.
 fn laid(bytes: &[u8], buffer: &[u8]) -> (Numbers, bool) {
     if buffer.len() < bytes.len() {
         return (Numbers::of(&[6]).buffer(buffer), true);

@@ -1,4 +1,4 @@
-//! The exact averages of document 01, which round nothing. They are fed the arguments of the calls that were not refused, and no record.
+//! The averages of document 01, "The exact averages", which round nothing. They are fed the arguments of the calls that were not refused, and no record.
 
 use crate::histories::whole::Whole;
 use crate::proto::mmp::wire::ReceiverReport;

@@ -1,4 +1,4 @@
-//! `ReceiverState`, its rule and its questions, as document 01 reads them, beside the commit's.
+//! `ReceiverState`, its rule and its questions, as docs/RULES.md has them, beside the commit's.
 
 use std::collections::VecDeque;
 

@@ -1,4 +1,4 @@
-//! `SenderState`, its rule and its calls, as document 01 reads them, beside the commit's.
+//! `SenderState`, its rule and its calls, as docs/RULES.md has them, beside the commit's.
 
 use crate::cases::wire::sender_fields;
 use crate::proto::mmp::sender::oracle_access::{fields, state, Fields};

@@ -1,4 +1,4 @@
-//! What the figures' cases share: the shape of an answer, floats, and numbers about the bounds of document 01.
+//! What the figures' cases share: the shape of an answer, floats, and numbers about the bounds of the rules.
 
 use crate::script::case::Numbers;
 use crate::script::rng::{boundaries, Rng};

@@ -18,7 +18,7 @@ pub struct Case {
     pub answer: Answer,
     /// The commit panics here, has nothing to refuse with, or a request differs from it: the answer is the rule of docs/REPLAY.md.
     pub outside: bool,
-    /// Whether it is a request of document 02 that parts from the commit.
+    /// Whether it is a change request that parts from the commit.
     pub requested: bool,
     /// The frames missing before the one that an accepted call counts; 0 for any other call.
     pub gap: u64,

@@ -22,11 +22,11 @@ struct Count {
     cases: usize,
     /// The commit, by running.
     commit: usize,
-    /// Document 01: a refusal by its number.
+    /// A refusal by its number (document 01, "Before any figure: the checks").
     refused: usize,
     /// The rules of docs/REPLAY.md: the commit has no such call or state.
     rules: usize,
-    /// Document 02: the commit answers otherwise.
+    /// A change request: the commit answers otherwise.
     requests: usize,
     different: usize,
 }
