@@ -8,7 +8,7 @@ use refusals::answer::{AnswerBool, AnswerF64};
 use refusals::questions::Questions;
 use refusals::ranges::trend_ok;
 
-#[derive(Drop)]
+#[derive(Clone, Copy)]
 pub struct DualEwma {
     pub short: f64,
     pub long: f64,
@@ -17,7 +17,7 @@ pub struct DualEwma {
 }
 
 // A detector after a call that may refuse.
-#[derive(Drop)]
+#[derive(Clone, Copy)]
 pub struct EwmaUpdate {
     pub refusal: u8,
     pub state: DualEwma,

@@ -13,14 +13,14 @@ use refusals::questions::Questions;
 pub const MAX_JITTER_Q4: i64 = 1 << 35;
 
 // Smoothed jitter from the differences of transit times between consecutive frames.
-#[derive(Drop)]
+#[derive(Clone, Copy)]
 pub struct JitterEstimator {
     // Sixteen times the jitter, in µs.
     pub jitter_q4: i64,
 }
 
 // An estimator after a call that may refuse.
-#[derive(Drop)]
+#[derive(Clone, Copy)]
 pub struct JitterUpdate {
     pub refusal: u8,
     pub state: JitterEstimator,

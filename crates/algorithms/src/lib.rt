@@ -1,5 +1,7 @@
 // algorithms.rs: the link's figures, each with no knowledge of a peer or a node. Times come in as numbers.
 
+#![tactic(auto)]
+
 pub mod jitter; // jitter.rt: interarrival jitter
 pub mod srtt; // srtt.rt: smoothed round trip
 pub mod ewma; // ewma.rt: a short and a long trend

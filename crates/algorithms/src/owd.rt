@@ -11,14 +11,14 @@ use refusals::answer::AnswerI32;
 use refusals::questions::Questions;
 
 // The live pairs stand in `count` slots from `first` on, oldest first; after the last slot comes slot 0.
-#[derive(Drop)]
+#[derive(Clone, Copy)]
 pub struct OwdTrendDetector {
     pub capacity: usize,
     pub count: usize,
     pub first: usize,
 }
 
-#[derive(Drop)]
+#[derive(Clone, Copy)]
 pub struct OwdUpdate {
     pub refusal: u8,
     pub state: OwdTrendDetector,
@@ -202,7 +202,7 @@ impl OwdTrendDetector {
     // The sums over the window, in two straight runs. The Rust's `sum` starts from −0.0, which gives the same sums of casts.
     fn window_sums(self, times: &[u32], delays: &[i64]) -> Sums
         requires { Lent self times.now delays.now }
-        ensures { Summed zero-float zero-float true (window self times.now delays.now) result.x result.y result.delays_ok }
+        ensures { Summed zero_float zero_float true (window self times.now delays.now) result.x result.y result.delays_ok }
     {
         let first = self.first;
         let stop = self.stop();

@@ -9,7 +9,7 @@ ghost use Rattle.algorithms.specs.OwdTrend.{time, delay, product, plus};
 ghost use Rattle.algorithms.specs.Passes.{stretch, Summed};
 
 // The sums of the times and of the delays, and whether each delay is in range: from the first that is not, the sums are unfinished.
-#[derive(Drop)]
+#[derive(Clone, Copy)]
 pub(crate) struct Sums {
     pub(crate) x: f64,
     pub(crate) y: f64,
@@ -17,7 +17,7 @@ pub(crate) struct Sums {
 }
 
 // The sums of dx * dy and of dx * dx.
-#[derive(Drop)]
+#[derive(Clone, Copy)]
 pub(crate) struct Moments {
     pub(crate) num: f64,
     pub(crate) den: f64,

@@ -9,7 +9,7 @@ use refusals::option::OptionU64;
 use refusals::questions::Questions;
 use refusals::ranges::{clock_ok, optional_clock_ok};
 
-#[derive(Drop)]
+#[derive(Clone, Copy)]
 pub struct SpinBitState {
     pub is_initiator: bool,
     pub current_value: bool,
@@ -20,14 +20,14 @@ pub struct SpinBitState {
 }
 
 // A state after a call that may refuse.
-#[derive(Drop)]
+#[derive(Clone, Copy)]
 pub struct SpinUpdate {
     pub refusal: u8,
     pub state: SpinBitState,
 }
 
 // A state after a frame, with the round trip that the frame ended.
-#[derive(Drop)]
+#[derive(Clone, Copy)]
 pub struct SpinObserved {
     pub refusal: u8,
     pub rtt_ms: OptionU64,

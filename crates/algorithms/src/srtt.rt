@@ -10,7 +10,7 @@ use refusals::questions::Questions;
 use refusals::ranges::round_trip_ok;
 
 // Smoothed round trip and its variation, in whole µs.
-#[derive(Drop)]
+#[derive(Clone, Copy)]
 pub struct SrttEstimator {
     pub srtt_us: i64,
     pub rttvar_us: i64,
@@ -19,7 +19,7 @@ pub struct SrttEstimator {
 }
 
 // An estimator after a call that may refuse.
-#[derive(Drop)]
+#[derive(Clone, Copy)]
 pub struct SrttUpdate {
     pub refusal: u8,
     pub state: SrttEstimator,

@@ -11,7 +11,7 @@ use refusals::questions::Questions;
 use refusals::ranges::{range_ok, round_trip_ok};
 
 // The ranges of the smoothed round trip and of its variation, in whole µs.
-#[derive(Drop)]
+#[derive(Clone, Copy)]
 pub struct SrttRangeEstimator {
     pub srtt_lowest_us: i64,
     pub srtt_highest_us: i64,
@@ -22,7 +22,7 @@ pub struct SrttRangeEstimator {
 }
 
 // An estimator after a call that may refuse.
-#[derive(Drop)]
+#[derive(Clone, Copy)]
 pub struct SrttRangeUpdate {
     pub refusal: u8,
     pub state: SrttRangeEstimator,

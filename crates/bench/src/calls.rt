@@ -9,7 +9,7 @@ use wire::sender_report::SenderReport;
 pub const START: u64 = 88172645463325252;
 
 // The last random number, and the checksum so far.
-#[derive(Drop)]
+#[derive(Clone, Copy)]
 pub struct Progress {
     pub random: u64,
     pub sum: u64,

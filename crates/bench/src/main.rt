@@ -3,6 +3,9 @@
 // than 67 (0). Calls 0, 100, 300, 400, 500 and 600 are the loops alone. The decoders, 202, 204 and 207, are compiled with the payload's length known, and as 1202, 1204 and 1207 without it. The trend, 334, is
 // over 32 pairs, and as 1334 over 256, the most that a window holds; a frame, 504, is sampled, and as 1504 not; a report processed, 603, is fresh, and as 1603 late. oracle/src/bin/bench is
 // the same program over the commit's Rust.
+
+#![tactic(auto)]
+
 mod calls;
 mod decoded;
 mod estimators;

@@ -7,41 +7,41 @@ use crate::Place;
 use crate::fields::{left_at, u16_in, u32_in, u64_in};
 
 // Whether the payload has what a read asks for: the Rust's `MessageTooShort`, with its two lengths, where it has not.
-#[derive(Drop)]
+#[derive(Clone, Copy)]
 pub enum Length {
     Enough,
     TooShort { needed: usize, given: usize },
 }
 
 // The length answer, and the place after.
-#[derive(Drop)]
+#[derive(Clone, Copy)]
 pub struct Advanced {
     pub length: Length,
     pub place: Place,
 }
 
-#[derive(Drop)]
+#[derive(Clone, Copy)]
 pub struct ReadU8 {
     pub length: Length,
     pub value: u8,
     pub place: Place,
 }
 
-#[derive(Drop)]
+#[derive(Clone, Copy)]
 pub struct ReadU16 {
     pub length: Length,
     pub value: u16,
     pub place: Place,
 }
 
-#[derive(Drop)]
+#[derive(Clone, Copy)]
 pub struct ReadU32 {
     pub length: Length,
     pub value: u32,
     pub place: Place,
 }
 
-#[derive(Drop)]
+#[derive(Clone, Copy)]
 pub struct ReadU64 {
     pub length: Length,
     pub value: u64,
@@ -49,7 +49,7 @@ pub struct ReadU64 {
 }
 
 // The bytes are `&payload[start..end]`.
-#[derive(Drop)]
+#[derive(Clone, Copy)]
 pub struct ReadBytes {
     pub length: Length,
     pub start: usize,
@@ -57,21 +57,21 @@ pub struct ReadBytes {
     pub place: Place,
 }
 
-#[derive(Drop)]
+#[derive(Clone, Copy)]
 pub struct ReadArray2 {
     pub length: Length,
     pub bytes: [u8; 2],
     pub place: Place,
 }
 
-#[derive(Drop)]
+#[derive(Clone, Copy)]
 pub struct ReadArray4 {
     pub length: Length,
     pub bytes: [u8; 4],
     pub place: Place,
 }
 
-#[derive(Drop)]
+#[derive(Clone, Copy)]
 pub struct ReadArray8 {
     pub length: Length,
     pub bytes: [u8; 8],

@@ -7,7 +7,7 @@ use crate::Place;
 use crate::fields::{left_at, put_u8, put_u16, put_u32, put_u64};
 
 // 0 and the place after what was written, or 6 and the place as it was.
-#[derive(Drop)]
+#[derive(Clone, Copy)]
 pub struct Written {
     pub refusal: u8,
     pub place: Place,

@@ -1,6 +1,6 @@
 // How far SRTT and RTTVAR have been from the exact averages.
 
-#[derive(Drop)]
+#[derive(Clone, Copy)]
 pub struct Extremes {
     // SRTT - S.
     pub least: f64,

@@ -7,7 +7,7 @@ use numbers::signs::unsigned;
 use receiver::ReceiverState;
 use wire::receiver_report::{ReceiverReport, no_report};
 
-#[derive(Drop)]
+#[derive(Clone, Copy)]
 pub struct Life {
     // The minutes that it has had.
     pub minutes: u64,
@@ -23,7 +23,7 @@ pub struct Life {
 }
 
 // What the tables show.
-#[derive(Drop)]
+#[derive(Clone, Copy)]
 pub struct Figures {
     pub srtt_us: u64,
     // S.
@@ -104,7 +104,7 @@ fn heard(m: MmpMetrics, rr: ReceiverReport, rtt_ms: u32, minute: u64) -> MmpMetr
 }
 
 // The peer's report of a minute, and its receiver after it.
-#[derive(Drop)]
+#[derive(Clone, Copy)]
 struct Told {
     report: ReceiverReport,
     receiver: ReceiverState,

@@ -1,6 +1,9 @@
 // A link's life in figures: a 3 ms link, a slow spell, a rekey, a lossy hour, and reports that come again or late; then ten years of the same, a line
 // a year. Beside our figures stand RFC 6298's exact averages and a smoother that stores whole milliseconds. With an argument it writes every minute of the first
 // hours, for tools/draw-life.
+
+#![tactic(auto)]
+
 mod calendar;
 mod extremes;
 mod life;

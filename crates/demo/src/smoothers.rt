@@ -4,7 +4,7 @@
 // eighth of what is added, and keeps 7/8 of the error before it: S is less than 9 x 2^-36 us off. V, which takes |S - R| and keeps 3/4, is less than 16 x 2^-36
 // us off: both less than 1e-9 us, a thousandth of the last place that is shown.
 
-#[derive(Drop)]
+#[derive(Clone, Copy)]
 pub struct Smoothers {
     pub begun: bool,
     // S: the average of the round trips, in us.

@@ -1,4 +1,7 @@
 // The worked examples of document 01, "Promises and the checked examples", and more, run and compared. A line for each: ok or WRONG, what it is, what came out.
+
+#![tactic(auto)]
+
 mod averages;
 mod bursts;
 mod delays;

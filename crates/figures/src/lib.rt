@@ -1,6 +1,8 @@
 // What one receiver report says of a link, each figure from a few numbers: metrics.rs without its record. `_unchecked` is for a record that has asked the
 // questions.
 
+#![tactic(auto)]
+
 ghost use Rattle.std.specs.Prelude.{◌≡◌};
 ghost use Rattle.figures.specs.Stale.{saved, stale};
 ghost use Rattle.figures.specs.RoundTrips.{round_trip, milliseconds_of, tallies_ok};
@@ -18,7 +20,7 @@ pub const MAX_GOODPUT: f64 = 18_889_465_931_478_580_854_784.0;
 // --- Stale reports ---
 
 // The counters of a report that the stale test goes by.
-#[derive(Drop)]
+#[derive(Clone, Copy)]
 pub struct Counters {
     pub highest: u64,
     pub packets: u64,
@@ -56,7 +58,7 @@ pub fn is_stale(kept: Counters, rr: ReceiverReport) -> bool
 // --- Round trip ---
 
 // What a report's echo says of the round trip.
-#[derive(Drop)]
+#[derive(Clone, Copy)]
 pub enum RoundTrip {
     // The report carried no timestamp echo.
     NoEcho,

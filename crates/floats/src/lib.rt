@@ -1,4 +1,7 @@
 // Floats as the link's figures use them. Each contract is an equation with a definition of specs/.
+
+#![tactic(auto)]
+
 ghost use Rattle.std.specs.Prelude.{◌≡◌, pos};
 ghost use Rattle.std.specs.Float.Ieee as Ieee;
 ghost use Rattle.std.specs.Float.{binary64};
@@ -90,7 +93,7 @@ pub fn one_minus(x: f64) -> f64
 
 // Rust's `a as f64 / b as f64`.
 pub fn quotient(a: u64, b: u64) -> f64
-    ensures { result ≡ rounded-quotient binary64 a b }
+    ensures { result ≡ rounded_quotient binary64 a b }
 {
     nearest_u64_to_f64(a) / nearest_u64_to_f64(b)
 }

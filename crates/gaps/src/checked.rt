@@ -7,7 +7,7 @@ use crate::{Arrival, GapTracker};
 use refusals::questions::Questions;
 
 // Where the frame observed stands, `First` beside a refusal, and the tracker after it.
-#[derive(Drop)]
+#[derive(Clone, Copy)]
 pub struct GapObserved {
     pub refusal: u8,
     pub arrival: Arrival,
@@ -15,14 +15,14 @@ pub struct GapObserved {
 }
 
 // A tracker after a call that may refuse.
-#[derive(Drop)]
+#[derive(Clone, Copy)]
 pub struct GapUpdate {
     pub refusal: u8,
     pub tracker: GapTracker,
 }
 
 // An interval's bursts, 0 beside a refusal, and the tracker for the next interval.
-#[derive(Drop)]
+#[derive(Clone, Copy)]
 pub struct GapStats {
     pub refusal: u8,
     pub count: u32,

@@ -1,5 +1,7 @@
 // receiver.rs, Gap Tracker: gaps in the counters of the frames that come, as bursts of lost frames. `_unchecked` is for a record that has asked the questions.
 
+#![tactic(auto)]
+
 pub mod checked; // checked.rt: the calls behind their questions
 
 ghost use Rattle.std.specs.Prelude.{◌≡◌};
@@ -16,7 +18,7 @@ use refusals::ranges::counter_u32_ok;
 pub const MAX_BURST_LEN: u64 = u16::MAX as u64;
 
 // Each gap in the counter sequence is a burst of lost frames.
-#[derive(Drop)]
+#[derive(Clone, Copy)]
 pub struct GapTracker {
     // Next expected counter value.
     pub expected_next: OptionU64,
@@ -34,7 +36,7 @@ pub struct GapTracker {
 }
 
 // Where a frame's counter stands beside the expected one.
-#[derive(Drop)]
+#[derive(Clone, Copy)]
 pub enum Arrival {
     // No frame came before, so none was expected.
     First,
@@ -46,14 +48,14 @@ pub enum Arrival {
 }
 
 // Where the frame observed stands, and the tracker after it.
-#[derive(Drop)]
+#[derive(Clone, Copy)]
 pub struct Observed {
     pub arrival: Arrival,
     pub tracker: GapTracker,
 }
 
 // An interval's bursts: their number, the longest and the mean in 1/256 of a frame; and the tracker for the next interval.
-#[derive(Drop)]
+#[derive(Clone, Copy)]
 pub struct IntervalStats {
     pub count: u32,
     pub max: u16,

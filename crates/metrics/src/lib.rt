@@ -1,5 +1,7 @@
 // metrics.rs: what an end learns of a link from its peer's receiver reports. Times come in as numbers.
 
+#![tactic(auto)]
+
 pub mod updates; // updates.rt: a rekey, and the reverse delivery ratio
 pub mod reports; // reports.rt: what a receiver report moves, and how it is processed
 pub mod accessors; // accessors.rt: the figures
@@ -15,7 +17,7 @@ use refusals::questions::Questions;
 use refusals::ranges::{etx_ok, optional_clock_ok, ratio_ok};
 
 // Which log entry applies to a report that was processed.
-#[derive(Drop)]
+#[derive(Clone, Copy)]
 pub enum RrLog {
     // No RTT log point fires (the report carried no timestamp echo).
     None,
@@ -35,7 +37,7 @@ pub enum RrLog {
 }
 
 // What became of a report.
-#[derive(Drop)]
+#[derive(Clone, Copy)]
 pub struct Outcome {
     // SRTT has just become known.
     pub first_srtt: bool,
@@ -43,7 +45,7 @@ pub struct Outcome {
 }
 
 // Derived metrics, updated from the receiver reports of one peer.
-#[derive(Drop)]
+#[derive(Clone, Copy)]
 pub struct MmpMetrics {
     // Smoothed RTT from timestamp echo.
     pub srtt: SrttEstimator,
@@ -92,14 +94,14 @@ pub struct MmpMetrics {
 }
 
 // A state after a call that may refuse.
-#[derive(Drop)]
+#[derive(Clone, Copy)]
 pub struct MetricsUpdate {
     pub refusal: u8,
     pub state: MmpMetrics,
 }
 
 // A state after a report, and what became of the report.
-#[derive(Drop)]
+#[derive(Clone, Copy)]
 pub struct ReportProcessed {
     pub refusal: u8,
     pub state: MmpMetrics,
@@ -107,14 +109,14 @@ pub struct ReportProcessed {
 }
 
 // Highest counter, packets received and reorder count of a report that may be missing.
-#[derive(Drop)]
+#[derive(Clone, Copy)]
 pub enum RrCounters {
     None,
     Some(u64, u64, u32),
 }
 
 // What `rr_counters` answers.
-#[derive(Drop)]
+#[derive(Clone, Copy)]
 pub struct AnswerCounters {
     pub refusal: u8,
     pub value: RrCounters,

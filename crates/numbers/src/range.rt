@@ -7,7 +7,7 @@ use crate::methods::{max_u64, saturating_sub_u64};
 use crate::{srtt_step, variation_step};
 
 // A lowest and a highest value.
-#[derive(Drop)]
+#[derive(Clone, Copy)]
 pub struct Range {
     pub lowest: u64,
     pub highest: u64,

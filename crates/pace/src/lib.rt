@@ -1,5 +1,7 @@
 // How far apart reports are sent: what SenderState and ReceiverState have in common. A state hands in its numbers, and puts the answer's in their place.
 
+#![tactic(auto)]
+
 pub mod intervals; // intervals.rt: an interval between bounds, and the floor at an update
 
 ghost use Rattle.std.specs.Prelude.{◌≡◌, true};
@@ -13,7 +15,7 @@ use refusals::questions::Questions;
 use refusals::ranges::{bounds_ok, clock_ok, smoothed_ok};
 
 // The report interval and the count of its updates: as they were on a refusal.
-#[derive(Drop)]
+#[derive(Clone, Copy)]
 pub struct Paced {
     pub refusal: u8,
     pub report_interval_ms: u64,

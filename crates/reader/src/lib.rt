@@ -1,5 +1,8 @@
 // `Reader`, holding the payload that it was given: thin functions over those on a slice and a place. Their MIR is walked by hand, once for each form.
 // A `read_*` moves the position past what it read, and one that is too short leaves it; a `decode_*` leaves it.
+
+#![tactic(auto)]
+
 pub mod reports; // reports.rt: the decoding of each report
 pub mod reads; // reads.rt: each read, by a reader made at a position
 

@@ -1,5 +1,7 @@
 // receiver.rs: what an end keeps of the frames that come from a peer, and the reports that it makes of them. Times come in as numbers.
 
+#![tactic(auto)]
+
 pub mod frames; // frames.rt: a frame is received
 pub mod reports; // reports.rt: a report is built
 pub mod pacing; // pacing.rt: the report interval, and when a report is due
@@ -25,7 +27,7 @@ pub const REKEY_JITTER_GRACE_MS: u64 = 15_000;
 const MAX_GRACE_MS: u64 = MAX_CLOCK_MS + REKEY_JITTER_GRACE_MS;
 
 // What an end keeps of the frames that come from one peer.
-#[derive(Drop)]
+#[derive(Clone, Copy)]
 pub struct ReceiverState {
     // --- Cumulative (lifetime) ---
     pub cumulative_packets_recv: u64,
@@ -67,14 +69,14 @@ pub struct ReceiverState {
 }
 
 // A new state, the default one on a refusal.
-#[derive(Drop)]
+#[derive(Clone, Copy)]
 pub struct ReceiverNew {
     pub refusal: u8,
     pub state: ReceiverState,
 }
 
 // A state after a call that may refuse.
-#[derive(Drop)]
+#[derive(Clone, Copy)]
 pub struct ReceiverUpdate {
     pub refusal: u8,
     pub state: ReceiverState,

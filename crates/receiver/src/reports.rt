@@ -13,7 +13,7 @@ use samples::echo::echo_of_unchecked;
 use wire::receiver_report::{ReceiverReport, no_report};
 
 // A report, zeros where there is none, and the state after it.
-#[derive(Drop)]
+#[derive(Clone, Copy)]
 pub struct ReceiverReportBuilt {
     pub refusal: u8,
     pub some: bool,

@@ -5,55 +5,55 @@ ghost use Rattle.refusals.specs.Answers.{answer_u32, answer_u64, answer_i64, ans
 
 use crate::option::{OptionF64, OptionU32, OptionU64};
 
-#[derive(Drop)]
+#[derive(Clone, Copy)]
 pub struct AnswerU32 {
     pub refusal: u8,
     pub value: u32,
 }
 
-#[derive(Drop)]
+#[derive(Clone, Copy)]
 pub struct AnswerU64 {
     pub refusal: u8,
     pub value: u64,
 }
 
-#[derive(Drop)]
+#[derive(Clone, Copy)]
 pub struct AnswerI32 {
     pub refusal: u8,
     pub value: i32,
 }
 
-#[derive(Drop)]
+#[derive(Clone, Copy)]
 pub struct AnswerI64 {
     pub refusal: u8,
     pub value: i64,
 }
 
-#[derive(Drop)]
+#[derive(Clone, Copy)]
 pub struct AnswerF64 {
     pub refusal: u8,
     pub value: f64,
 }
 
-#[derive(Drop)]
+#[derive(Clone, Copy)]
 pub struct AnswerBool {
     pub refusal: u8,
     pub value: bool,
 }
 
-#[derive(Drop)]
+#[derive(Clone, Copy)]
 pub struct AnswerOptionU32 {
     pub refusal: u8,
     pub value: OptionU32,
 }
 
-#[derive(Drop)]
+#[derive(Clone, Copy)]
 pub struct AnswerOptionU64 {
     pub refusal: u8,
     pub value: OptionU64,
 }
 
-#[derive(Drop)]
+#[derive(Clone, Copy)]
 pub struct AnswerOptionF64 {
     pub refusal: u8,
     pub value: OptionF64,

@@ -1,5 +1,7 @@
 // What a call asks before any figure: document 01, "Before any figure: the checks".
 
+#![tactic(auto)]
+
 pub mod answer; // answer.rt: what an accessor answers
 pub mod option; // option.rt: values that may be missing
 pub mod questions; // questions.rt: the eleven questions, and the first that is answered no

@@ -4,21 +4,21 @@ ghost use Rattle.std.specs.Prelude.{◌≡◌};
 ghost use Rattle.refusals.specs.Answers.{then_some, or_zero};
 
 // A u32 that may be missing.
-#[derive(Drop)]
+#[derive(Clone, Copy)]
 pub enum OptionU32 {
     None,
     Some(u32),
 }
 
 // A u64 that may be missing.
-#[derive(Drop)]
+#[derive(Clone, Copy)]
 pub enum OptionU64 {
     None,
     Some(u64),
 }
 
 // An f64 that may be missing.
-#[derive(Drop)]
+#[derive(Clone, Copy)]
 pub enum OptionF64 {
     None,
     Some(f64),

@@ -4,7 +4,7 @@ ghost use Rattle.std.specs.Prelude.{◌≡◌};
 ghost use Rattle.refusals.specs.Questions.{first_no, asked, all_yes};
 
 // The answers to the questions of document 01, "Before any figure: the checks", in its order. A question that a call doesn't have stays true.
-#[derive(Drop)]
+#[derive(Clone, Copy)]
 pub struct Questions {
     // 1. The state keeps its rule.
     pub state: bool,

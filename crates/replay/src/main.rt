@@ -1,4 +1,7 @@
 // Answers a script of calls, one line for each, as docs/REPLAY.md says.
+
+#![tactic(auto)]
+
 mod calls;
 mod lent;
 mod reply;
@@ -12,7 +15,7 @@ use scan::Scan;
 use text::Text;
 
 // The line as far as it was read, the text of the answers, and whether the script has ended.
-#[derive(Drop)]
+#[derive(Clone, Copy)]
 struct Progress {
     scan: Scan,
     text: Text,

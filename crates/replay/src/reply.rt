@@ -12,7 +12,7 @@ use refusals::option::{OptionF64, OptionU32, OptionU64};
 // Room for the longest answer: a report and the record after it.
 const ROOM: usize = 64;
 
-#[derive(Drop)]
+#[derive(Clone, Copy)]
 pub struct Reply {
     // how many of the numbers are there
     pub count: usize,

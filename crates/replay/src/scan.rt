@@ -1,7 +1,7 @@
 // A line of the script, byte by byte, into a table of its numbers.
 
 // How far a line was read.
-#[derive(Drop)]
+#[derive(Clone, Copy)]
 pub struct Scan {
     // the line's number, from 1
     pub line: u64,

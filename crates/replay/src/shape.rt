@@ -133,7 +133,7 @@ fn after_number(given: &[u64], at: usize, kind: u64) -> usize {
 }
 
 // The arguments as far as they fit: the place of the last one, and the place after it.
-#[derive(Drop)]
+#[derive(Clone, Copy)]
 struct Walk {
     last: usize,
     next: usize,

@@ -4,7 +4,7 @@ use crate::lent::first_bytes;
 use libc::{STDERR_FILENO, STDOUT_FILENO};
 
 // How many bytes of the buffer wait, and whether a write has failed.
-#[derive(Drop)]
+#[derive(Clone, Copy)]
 pub struct Text {
     pub waiting: usize,
     pub failed: bool,

@@ -19,21 +19,21 @@ use refusals::ranges::clock_ok;
 pub const OWD_REF_SPAN_MS: u64 = 1 << 30;
 
 // The receive time and the sender's timestamp of the frame that every delay is measured from.
-#[derive(Drop)]
+#[derive(Clone, Copy)]
 pub enum OwdReference {
     None,
     Some(u64, u32),
 }
 
 // A reference that is there.
-#[derive(Drop)]
+#[derive(Clone, Copy)]
 pub struct OwdBase {
     pub recv_ms: u64,
     pub sender_timestamp: u32,
 }
 
 // A delay window and its reference after a sample.
-#[derive(Drop)]
+#[derive(Clone, Copy)]
 pub struct OwdSampled {
     pub refusal: u8,
     pub owd_trend: OwdTrendDetector,

@@ -10,7 +10,7 @@ use refusals::option::OptionU64;
 const MAX_DWELL_MS: u64 = u16::MAX as u64;
 
 // What a report says of the last sampled frame: its timestamp, and how long ago it came.
-#[derive(Drop)]
+#[derive(Clone, Copy)]
 pub struct Echo {
     pub timestamp_echo: u32,
     pub dwell_time: u16,

@@ -9,7 +9,7 @@ use refusals::questions::Questions;
 use refusals::ranges::counter_u32_ok;
 
 // The failures in a row with this one.
-#[derive(Drop)]
+#[derive(Clone, Copy)]
 pub struct SendFailure {
     pub refusal: u8,
     pub count: u32,
@@ -17,7 +17,7 @@ pub struct SendFailure {
 }
 
 // The failures in a row that a success ended.
-#[derive(Drop)]
+#[derive(Clone, Copy)]
 pub struct SendSuccess {
     pub refusal: u8,
     pub previous: u32,

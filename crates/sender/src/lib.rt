@@ -1,5 +1,7 @@
 // sender.rs: what an end keeps of the frames that it sends to a peer, and when it reports them. Times come in as numbers.
 
+#![tactic(auto)]
+
 pub mod sent; // sent.rt: a frame is sent
 pub mod reports; // reports.rt: a report is built
 pub mod backoff; // backoff.rt: failures to send a report
@@ -16,7 +18,7 @@ use refusals::ranges::clock_ok;
 
 // What an end keeps of the frames that it sends to one peer.
 #[repr(C)]
-#[derive(Drop)]
+#[derive(Clone, Copy)]
 pub struct SenderState {
     // --- Cumulative (lifetime) ---
     pub cumulative_packets_sent: u64,
@@ -44,14 +46,14 @@ pub struct SenderState {
 }
 
 // A new state, the default one on a refusal.
-#[derive(Drop)]
+#[derive(Clone, Copy)]
 pub struct SenderNew {
     pub refusal: u8,
     pub state: SenderState,
 }
 
 // A state after a call that may refuse.
-#[derive(Drop)]
+#[derive(Clone, Copy)]
 pub struct SenderUpdate {
     pub refusal: u8,
     pub state: SenderState,

@@ -9,7 +9,7 @@ use refusals::ranges::clock_ok;
 use wire::sender_report::{SenderReport, no_report};
 
 // A report, zeros where there is none, and the state after it.
-#[derive(Drop)]
+#[derive(Clone, Copy)]
 pub struct SenderReportBuilt {
     pub refusal: u8,
     pub some: bool,

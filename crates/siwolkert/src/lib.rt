@@ -1,4 +1,7 @@
 // What the Rust daemon and the differential tests call. The status is the return value: 0, or document 01's number.
+
+#![tactic(auto)]
+
 pub mod lent; // lent.rt: the sender's record
 
 ghost use Rattle.std.specs.Prelude.{◌≡◌};

@@ -7,13 +7,13 @@ use codec::Place;
 use codec::fields::put_u16;
 use codec::reader::{Length, require};
 
-#[derive(Drop)]
+#[derive(Clone, Copy)]
 pub struct PathMtuNotification {
     pub path_mtu: u16,
 }
 
 // The notification, or number 7 with the needed and given lengths and a notification of 0.
-#[derive(Drop)]
+#[derive(Clone, Copy)]
 pub struct PathMtuDecoded {
     pub refusal: u8,
     pub needed: usize,

@@ -8,7 +8,7 @@ use codec::Place;
 use codec::fields::{put_i32, put_u8, put_u16, put_u32, put_u64};
 use codec::reader::{Length, needed_for, require};
 
-#[derive(Drop)]
+#[derive(Clone, Copy)]
 pub struct ReceiverReport {
     pub highest_counter: u64,
     pub cumulative_packets_recv: u64,
@@ -27,7 +27,7 @@ pub struct ReceiverReport {
 }
 
 // The report, or number 7 with the needed and given lengths and a report of zeros.
-#[derive(Drop)]
+#[derive(Clone, Copy)]
 pub struct ReceiverReportDecoded {
     pub refusal: u8,
     pub needed: usize,

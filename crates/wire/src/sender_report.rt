@@ -9,7 +9,7 @@ use codec::fields::{put_u8, put_u32, put_u64};
 use codec::reader::{Length, needed_for, require};
 
 #[repr(C)]
-#[derive(Drop)]
+#[derive(Clone, Copy)]
 pub struct SenderReport {
     pub interval_start_counter: u64,
     pub interval_end_counter: u64,
@@ -21,7 +21,7 @@ pub struct SenderReport {
 }
 
 // The report, or number 7 with the needed and given lengths and a report of zeros.
-#[derive(Drop)]
+#[derive(Clone, Copy)]
 pub struct SenderReportDecoded {
     pub refusal: u8,
     pub needed: usize,
