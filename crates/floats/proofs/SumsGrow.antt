@@ -1,10 +1,10 @@
 -- A sum of values that are not negative is no smaller than either, after its rounding too, and the addends of a number are numbers; the lesser of two values says of
 -- both that they are not negative.
-use Rattle.std.proofs.Common.{◌≡◌, ℕ, ◌+◌, ◌*◌, ◌^◌, ◌<◌, ◌≤◌, Bool, true, false, cond, not, T, sym, refl, subst, inl, inr, true≢false, le_refl, lt_of_le_of_lt, mul-le-mul_right, arith, pow_pos}
+use Rattle.std.proofs.Common.{ℕ, ◌+◌, ◌*◌, ◌^◌, ◌<◌, ◌≤◌, Bool, true, false, cond, not, T, sym, refl, subst, inl, inr, true≢false, le_refl, lt_of_le_of_lt, mul-le-mul_right, arith, pow_pos}
 use lib.Ieee.{Float, nan, inf, fin, Format, low, round, add, lt, le, fits, is_nan}
 use lib.Ieee.Scale.{grid, overflow}
 use Rattle.floats.proofs.Fractions.{Ordered}
-use Rattle.floats.proofs.At.{At, Sign, at_le}
+use Rattle.floats.proofs.At.{Sign, at_le}
 use Rattle.floats.proofs.Grid.{grid_le, grid_ge, round_at}
 use Rattle.floats.proofs.Order.{le_transitive, lt→le, not_lt→le}
 use Rattle.floats.proofs.Rounding.{Rounds, round_monotone}

@@ -18,6 +18,7 @@ pub fn in_range(x: f64, lo: f64, hi: f64) -> bool
 }
 
 // Rust's `clamp`, for any ends. A NaN stays one.
+#[tactic(auto, unfolding(crate::specs::Operations::clamped))]
 pub fn clamp(x: f64, lo: f64, hi: f64) -> f64
     ensures { result ≡ clamped lo hi x }
 {
@@ -31,6 +32,7 @@ pub fn clamp(x: f64, lo: f64, hi: f64) -> f64
 }
 
 // The lesser of two numbers; b where one is a NaN.
+#[tactic(auto, unfolding(crate::specs::Operations::lesser))]
 pub fn least(a: f64, b: f64) -> f64
     ensures { result ≡ lesser a b }
 {
@@ -85,6 +87,7 @@ pub fn nearest_i64_to_f64(n: i64) -> f64
 // --- Ratios ---
 
 // The loss beside a delivery ratio.
+#[tactic(auto, unfolding(crate::specs::Operations::complement))]
 pub fn one_minus(x: f64) -> f64
     ensures { result ≡ complement binary64 x }
 {
@@ -92,6 +95,7 @@ pub fn one_minus(x: f64) -> f64
 }
 
 // Rust's `a as f64 / b as f64`.
+#[tactic(auto, unfolding(crate::specs::Operations::rounded_quotient))]
 pub fn quotient(a: u64, b: u64) -> f64
     ensures { result ≡ rounded_quotient binary64 a b }
 {
