@@ -15,7 +15,8 @@ mod sent;
 mod table;
 
 use calls::{Progress, START};
-use libc::STDOUT_FILENO;
+use std::io;
+use std::rt::Env;
 
 // The number that the digits write, as far as it fits; every other byte is passed over.
 fn number(digits: &[u8]) -> u64 {
@@ -41,9 +42,9 @@ fn with_digit(value: u64, b: u8) -> u64 {
     10 * value + (b - b'0') as u64
 }
 
-fn argument(i: usize) -> u64 {
+fn argument(rt: &impl Env, i: usize) -> u64 {
     let mut digits = [0u8; 20];
-    let n = os::arg(i, &mut digits);
+    let n = rt.arg(i, &mut digits).unwrap_or(0);
     number(&digits[..n])
 }
 
@@ -213,8 +214,12 @@ fn beyond(sum: u64, less: u64) -> u64 {
     std::num::wrapping_sub_u64(sum, less)
 }
 
-fn main() {
-    let sum = sum_of(argument(1), argument(2), argument(3), argument(4));
-    io::print_decimal(STDOUT_FILENO, sum);
-    io::write_all(STDOUT_FILENO, b"\n");
+fn main(rt: HostRuntime) -> io::Result<()> {
+    let sum = sum_of(
+        argument(&rt, 1),
+        argument(&rt, 2),
+        argument(&rt, 3),
+        argument(&rt, 4),
+    );
+    println!(rt; "{sum}")
 }

@@ -12,6 +12,8 @@ mod print;
 mod smoothers;
 
 use life::Life;
+use std::io::{BufWriter, Write};
+use std::{env, io};
 
 const YEARS: u64 = 10;
 
@@ -21,50 +23,63 @@ fn shown(minute: u64) -> bool {
 }
 
 // A minute of the years: the first has the heading, and the last of a year its line.
-fn told_of_years(life: Life, minute: u64) {
+fn told_of_years(out: &mut impl Write, life: Life, minute: u64) -> io::Result<()> {
     if minute == calendar::FIRST_HOURS {
-        lines::years_heading();
+        lines::years_heading(out)?;
     }
     if minute % calendar::YEAR == calendar::YEAR - 1 {
         let extremes = life.year;
-        lines::year(life.figures(), extremes, minute / calendar::YEAR + 1);
+        lines::year(out, life.figures(), extremes, minute / calendar::YEAR + 1)?;
     }
+    Ok(())
 }
 
-fn told(life: Life, minute: u64, every: bool) {
+fn told(out: &mut impl Write, life: Life, minute: u64, every: bool) -> io::Result<()> {
     if calendar::FIRST_HOURS <= minute {
-        told_of_years(life, minute);
-        return;
+        return told_of_years(out, life, minute);
     }
     if every | shown(minute) {
-        lines::minute(life.figures(), minute);
+        lines::minute(out, life.figures(), minute)?;
     }
+    Ok(())
 }
 
 // A minute more, and its line.
-fn minute(life: Life, every: bool, times: &mut [u32], delays: &mut [i64]) -> Life {
+fn minute(
+    out: &mut impl Write,
+    life: Life,
+    every: bool,
+    times: &mut [u32],
+    delays: &mut [i64],
+) -> io::Result<Life> {
     let after = life.minute(times, delays);
-    told(after, life.minutes, every);
-    after
+    told(out, after, life.minutes, every)?;
+    Ok(after)
 }
 
-fn live(minutes: u64, every: bool, times: &mut [u32], delays: &mut [i64]) -> Life {
+fn live(
+    out: &mut impl Write,
+    minutes: u64,
+    every: bool,
+    times: &mut [u32],
+    delays: &mut [i64],
+) -> io::Result<Life> {
     let mut life = life::new();
     let mut left = minutes;
     while left > 0 {
         left -= 1;
-        life = minute(life, every, times, delays);
+        life = minute(out, life, every, times, delays)?;
     }
-    life
+    Ok(life)
 }
 
-fn ended(life: Life) {
+fn ended(out: &mut impl Write, life: Life) -> io::Result<()> {
     let ever = life.ever;
-    lines::last(life.figures(), ever, life.minutes / calendar::YEAR);
+    lines::last(out, life.figures(), ever, life.minutes / calendar::YEAR)
 }
 
-fn main() {
-    let every = os::arg_count() > 1;
+fn main(rt: HostRuntime) -> io::Result<()> {
+    let every = env::args(&rt)?.count() > 1;
     let minutes = if every {
         calendar::FIRST_HOURS
     } else {
@@ -72,9 +87,11 @@ fn main() {
     };
     let mut times = [0u32; 32];
     let mut delays = [0i64; 32];
-    lines::heading();
-    let life = live(minutes, every, &mut times, &mut delays);
+    let mut out = BufWriter::new(rt.alloc(), io::writer(&rt))?;
+    lines::heading(&mut out)?;
+    let life = live(&mut out, minutes, every, &mut times, &mut delays)?;
     if !every {
-        ended(life);
+        ended(&mut out, life)?;
     }
+    out.flush()
 }

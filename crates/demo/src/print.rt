@@ -1,54 +1,57 @@
-// Words and numbers on standard output. Places are cut, not rounded: 6.9999999 is below 7, and so it is shown.
-use libc::STDOUT_FILENO;
+// Words and numbers. Places are cut, not rounded: 6.9999999 is below 7, and so it is shown.
 use numbers::signs::bits32;
+use std::io;
+use std::io::Write;
 
-pub fn text(words: &[u8]) {
-    io::write_all(STDOUT_FILENO, words);
+pub fn text(out: &mut impl Write, words: &[u8]) -> io::Result<()> {
+    out.write_all(words)
 }
 
-pub fn decimal(n: u64) {
-    io::print_decimal(STDOUT_FILENO, n);
+pub fn decimal(out: &mut impl Write, n: u64) -> io::Result<()> {
+    write!(out, "{n}")
 }
 
-fn space_if(wanted: bool) {
+fn space_if(out: &mut impl Write, wanted: bool) -> io::Result<()> {
     if wanted {
-        text(b" ");
+        text(out, b" ")?;
     }
+    Ok(())
 }
 
 // A number in a column of a width, up to 8.
-pub fn number(n: u64, width: u64) {
-    space_if((width > 7) & (n < 10000000));
-    space_if((width > 6) & (n < 1000000));
-    space_if((width > 5) & (n < 100000));
-    space_if((width > 4) & (n < 10000));
-    space_if((width > 3) & (n < 1000));
-    space_if((width > 2) & (n < 100));
-    space_if((width > 1) & (n < 10));
-    decimal(n);
+pub fn number(out: &mut impl Write, n: u64, width: u64) -> io::Result<()> {
+    space_if(out, (width > 7) & (n < 10000000))?;
+    space_if(out, (width > 6) & (n < 1000000))?;
+    space_if(out, (width > 5) & (n < 100000))?;
+    space_if(out, (width > 4) & (n < 10000))?;
+    space_if(out, (width > 3) & (n < 1000))?;
+    space_if(out, (width > 2) & (n < 100))?;
+    space_if(out, (width > 1) & (n < 10))?;
+    decimal(out, n)
 }
 
-fn zero_if(wanted: bool) {
+fn zero_if(out: &mut impl Write, wanted: bool) -> io::Result<()> {
     if wanted {
-        text(b"0");
+        text(out, b"0")?;
     }
+    Ok(())
 }
 
-fn two_digits(n: u64) {
-    zero_if(n < 10);
-    decimal(n);
+fn two_digits(out: &mut impl Write, n: u64) -> io::Result<()> {
+    zero_if(out, n < 10)?;
+    decimal(out, n)
 }
 
-fn three_digits(n: u64) {
-    zero_if(n < 100);
-    two_digits(n);
+fn three_digits(out: &mut impl Write, n: u64) -> io::Result<()> {
+    zero_if(out, n < 100)?;
+    two_digits(out, n)
 }
 
-fn six_digits(n: u64) {
-    zero_if(n < 100000);
-    zero_if(n < 10000);
-    zero_if(n < 1000);
-    three_digits(n);
+fn six_digits(out: &mut impl Write, n: u64) -> io::Result<()> {
+    zero_if(out, n < 100000)?;
+    zero_if(out, n < 10000)?;
+    zero_if(out, n < 1000)?;
+    three_digits(out, n)
 }
 
 // The whole part of a number from 0 on, below 2^31, and what is left.
@@ -61,36 +64,36 @@ fn fraction(x: f64) -> f64 {
 }
 
 // To two, three and six places.
-pub fn hundredths(x: f64) {
-    decimal(whole(x));
-    text(b".");
-    two_digits(whole(100.0 * fraction(x)));
+pub fn hundredths(out: &mut impl Write, x: f64) -> io::Result<()> {
+    decimal(out, whole(x))?;
+    text(out, b".")?;
+    two_digits(out, whole(100.0 * fraction(x)))
 }
 
-pub fn thousandths(x: f64, width: u64) {
-    number(whole(x), width);
-    text(b".");
-    three_digits(whole(1000.0 * fraction(x)));
+pub fn thousandths(out: &mut impl Write, x: f64, width: u64) -> io::Result<()> {
+    number(out, whole(x), width)?;
+    text(out, b".")?;
+    three_digits(out, whole(1000.0 * fraction(x)))
 }
 
-fn millionths(x: f64) {
-    decimal(whole(x));
-    text(b".");
-    six_digits(whole(1000000.0 * fraction(x)));
+fn millionths(out: &mut impl Write, x: f64) -> io::Result<()> {
+    decimal(out, whole(x))?;
+    text(out, b".")?;
+    six_digits(out, whole(1000000.0 * fraction(x)))
 }
 
 // A number with its sign, where it has one.
-pub fn signed(x: f64) {
+pub fn signed(out: &mut impl Write, x: f64) -> io::Result<()> {
     if x < 0.0 {
-        text(b"-");
-        millionths(0.0 - x);
+        text(out, b"-")?;
+        millionths(out, 0.0 - x)
     } else {
-        millionths(x);
+        millionths(out, x)
     }
 }
 
 // The same in a column: a place is left for the sign.
-pub fn difference(x: f64) {
-    space_if(x >= 0.0);
-    signed(x);
+pub fn difference(out: &mut impl Write, x: f64) -> io::Result<()> {
+    space_if(out, x >= 0.0)?;
+    signed(out, x)
 }

@@ -1,22 +1,21 @@
 // The lines that the program writes.
-use libc::STDOUT_FILENO;
 use refusals::option::OptionU64;
+use std::io;
+use std::io::Write;
 
-pub fn heading(text: &[u8]) {
-    io::write_all(STDOUT_FILENO, text);
+pub fn heading(out: &mut impl Write, text: &[u8]) -> io::Result<()> {
+    out.write_all(text)
 }
 
 // One example: its name, what came out and what the rules say.
-pub fn number(name: &[u8], got: u64, said: u64) {
+pub fn number(out: &mut impl Write, name: &[u8], got: u64, said: u64) -> io::Result<()> {
     if got == said {
-        io::write_all(STDOUT_FILENO, b"ok    ");
+        out.write_all(b"ok    ")?;
     } else {
-        io::write_all(STDOUT_FILENO, b"WRONG ");
+        out.write_all(b"WRONG ")?;
     }
-    io::write_all(STDOUT_FILENO, name);
-    io::write_all(STDOUT_FILENO, b": ");
-    io::print_decimal(STDOUT_FILENO, got);
-    io::write_all(STDOUT_FILENO, b"\n");
+    out.write_all(name)?;
+    writeln!(out, ": {got}")
 }
 
 // A value, or the number that stands for none.
@@ -28,6 +27,6 @@ pub fn or(value: OptionU64, none: u64) -> u64 {
 }
 
 // A yes or no that should be yes.
-pub fn holds(name: &[u8], got: bool) {
-    number(name, got as u64, 1);
+pub fn holds(out: &mut impl Write, name: &[u8], got: bool) -> io::Result<()> {
+    number(out, name, got as u64, 1)
 }

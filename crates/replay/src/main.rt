@@ -10,8 +10,8 @@ mod shape;
 mod tables;
 mod text;
 
-use libc::STDIN_FILENO;
 use scan::Scan;
+use std::io::Read;
 use text::Text;
 
 // The line as far as it was read, the text of the answers, and whether the script has ended.
@@ -23,11 +23,11 @@ struct Progress {
 }
 
 // A byte of the script.
-fn take_byte(p: Progress, b: u8, given: &mut [u64], out: &mut [u8]) -> Progress {
+fn take_byte(rt: &impl Print, p: Progress, b: u8, given: &mut [u64], out: &mut [u8]) -> Progress {
     let scan = p.scan;
     let text = p.text;
     if b == b'\n' {
-        let answered = end_line(scan, text, given, out);
+        let answered = end_line(rt, scan, text, given, out);
         let next = scan::next_line(scan);
         return Progress {
             scan: next,
@@ -44,60 +44,78 @@ fn take_byte(p: Progress, b: u8, given: &mut [u64], out: &mut [u8]) -> Progress 
 }
 
 // The answer to the line that ends here.
-fn end_line(line: Scan, text: Text, given: &mut [u64], out: &mut [u8]) -> Text {
+fn end_line(rt: &impl Print, line: Scan, text: Text, given: &mut [u64], out: &mut [u8]) -> Text {
     let whole = scan::end_number(line, given);
     if whole.malformed {
-        return text::malformed(out, text, line.line);
+        return text::malformed(rt, out, text, line.line);
     }
-    answered(tables::first(given, whole.count), line.line, text, out)
+    answered(rt, tables::first(given, whole.count), line.line, text, out)
 }
 
 // The answer to a line of numbers.
-fn answered(given: &[u64], line: u64, text: Text, out: &mut [u8]) -> Text {
+fn answered(rt: &impl Print, given: &[u64], line: u64, text: Text, out: &mut [u8]) -> Text {
     let mut answer = [0u64; 8500];
     let n = calls::answer(given, &mut answer);
     if n == 0 {
-        return text::malformed(out, text, line);
+        return text::malformed(rt, out, text, line);
     }
-    text::line(out, text, tables::first(&answer, n))
+    text::line(rt, out, text, tables::first(&answer, n))
 }
 
-fn take_bytes(p: Progress, bytes: &[u8], given: &mut [u64], out: &mut [u8]) -> Progress {
+fn take_bytes(
+    rt: &impl Print,
+    p: Progress,
+    bytes: &[u8],
+    given: &mut [u64],
+    out: &mut [u8],
+) -> Progress {
     let mut progress = p;
     let mut i = 0;
     while i < bytes.len() && !progress.ended {
-        progress = take_byte(progress, bytes[i], given, out);
+        progress = take_byte(rt, progress, bytes[i], given, out);
         i += 1;
     }
     progress
 }
 
 // What is left when the script ends: a last line that no line feed ends, and the text.
-fn end_script(p: Progress, given: &mut [u64], out: &mut [u8]) {
+fn end_script(rt: &(impl Print + Eprint), p: Progress, given: &mut [u64], out: &mut [u8]) {
     let scan = p.scan;
     let text = p.text;
     if scan.begun {
-        let answered = end_line(scan, text, given, out);
-        text::end(out, answered);
+        let answered = end_line(rt, scan, text, given, out);
+        text::end(rt, out, answered);
         return;
     }
-    text::end(out, text);
+    text::end(rt, out, text);
 }
 
 // Reads once, and answers what came.
-fn take_some(p: Progress, chunk: &mut [u8], given: &mut [u64], out: &mut [u8]) -> Progress {
-    let got = libc::read(STDIN_FILENO, chunk);
-    if got <= 0 {
+fn take_some(
+    rt: &impl Print,
+    input: &mut impl Read,
+    p: Progress,
+    chunk: &mut [u8],
+    given: &mut [u64],
+    out: &mut [u8],
+) -> Progress {
+    let n = input.read(chunk).unwrap_or(0);
+    if n == 0 {
         let mut last = p;
         last.ended = true;
         return last;
     }
-    let n = io::count(got, chunk);
-    take_bytes(p, lent::first_bytes(chunk, n), given, out)
+    take_bytes(rt, p, lent::first_bytes(chunk, n), given, out)
 }
 
 // A proved loop has to end, and nothing says that the script does. So the loop counts its turns down, from a number that no run uses up.
-fn run(chunk: &mut [u8], given: &mut [u64], out: &mut [u8]) {
+fn run(
+    rt: &(impl Print + Eprint),
+    input: &mut impl Read,
+    chunk: &mut [u8],
+    given: &mut [u64],
+    out: &mut [u8],
+) {
     let mut progress = Progress {
         scan: scan::new(),
         text: text::new(),
@@ -105,15 +123,15 @@ fn run(chunk: &mut [u8], given: &mut [u64], out: &mut [u8]) {
     };
     let mut turns = u64::MAX;
     while turns > 0 && !progress.ended {
-        progress = take_some(progress, chunk, given, out);
+        progress = take_some(rt, input, progress, chunk, given, out);
         turns -= 1;
     }
-    end_script(progress, given, out);
+    end_script(rt, progress, given, out);
 }
 
-fn main() {
-    let mut chunk = io::large_buffer();
+fn main(rt: HostRuntime) {
+    let mut chunk = [0u8; 65536];
     let mut given = [0u64; 8500];
-    let mut out = io::large_buffer();
-    run(&mut chunk, &mut given, &mut out);
+    let mut out = [0u8; 65536];
+    run(&rt, &mut rt.stdin(), &mut chunk, &mut given, &mut out);
 }

@@ -1,7 +1,7 @@
 // The answers as text. It waits in a buffer, which is written when it is full and when the script ends. After a write that failed nothing more is taken up
 // or written.
 use crate::lent::first_bytes;
-use libc::{STDERR_FILENO, STDOUT_FILENO};
+use itoa::Buffer;
 
 // How many bytes of the buffer wait, and whether a write has failed.
 #[derive(Clone, Copy)]
@@ -18,7 +18,7 @@ pub fn new() -> Text {
 }
 
 // A byte after those that wait.
-fn put(out: &mut [u8], t: Text, b: u8) -> Text {
+fn put(rt: &impl Print, out: &mut [u8], t: Text, b: u8) -> Text {
     if t.failed {
         return t;
     }
@@ -30,7 +30,7 @@ fn put(out: &mut [u8], t: Text, b: u8) -> Text {
             failed: false,
         };
     }
-    let written = io::write_all(STDOUT_FILENO, out);
+    let written = rt.write_all(out).is_ok();
     put_first(out, written, b)
 }
 
@@ -44,64 +44,60 @@ fn put_first(out: &mut [u8], written: bool, b: u8) -> Text {
     Text { waiting: 0, failed }
 }
 
-fn put_all(out: &mut [u8], text: Text, s: &[u8]) -> Text {
+fn put_all(rt: &impl Print, out: &mut [u8], text: Text, s: &[u8]) -> Text {
     let mut t = text;
     let mut i = 0;
     while i < s.len() {
-        t = put(out, t, s[i]);
+        t = put(rt, out, t, s[i]);
         i += 1;
     }
     t
 }
 
-fn put_number(out: &mut [u8], text: Text, x: u64) -> Text {
-    let mut digits = [0u8; 20];
-    let n = io::decimal(x, &mut digits);
-    put_all(out, text, &digits[..n])
+fn put_number(rt: &impl Print, out: &mut [u8], text: Text, x: u64) -> Text {
+    let mut digits = Buffer::new();
+    put_all(rt, out, text, digits.format(x).as_bytes())
 }
 
 // The answer to a malformed line.
-pub fn malformed(out: &mut [u8], text: Text, line: u64) -> Text {
-    let t = put_all(out, text, b"malformed ");
-    let u = put_number(out, t, line);
-    put(out, u, b'\n')
+pub fn malformed(rt: &impl Print, out: &mut [u8], text: Text, line: u64) -> Text {
+    let t = put_all(rt, out, text, b"malformed ");
+    let u = put_number(rt, out, t, line);
+    put(rt, out, u, b'\n')
 }
 
 // The space before each number but the first.
-fn put_space(out: &mut [u8], text: Text, i: usize) -> Text {
+fn put_space(rt: &impl Print, out: &mut [u8], text: Text, i: usize) -> Text {
     if 0 < i {
-        return put(out, text, b' ');
+        return put(rt, out, text, b' ');
     }
     text
 }
 
 // A line of numbers, one space between.
-pub fn line(out: &mut [u8], text: Text, answer: &[u64]) -> Text {
+pub fn line(rt: &impl Print, out: &mut [u8], text: Text, answer: &[u64]) -> Text {
     let mut t = text;
     let mut i = 0;
     while i < answer.len() {
-        t = put_space(out, t, i);
-        t = put_number(out, t, answer[i]);
+        t = put_space(rt, out, t, i);
+        t = put_number(rt, out, t, answer[i]);
         i += 1;
     }
-    put(out, t, b'\n')
+    put(rt, out, t, b'\n')
 }
 
 // Writes what waits; says so on standard error where that or an earlier write failed.
-pub fn end(out: &[u8], t: Text) {
+pub fn end(rt: &(impl Print + Eprint), out: &[u8], t: Text) {
     if t.failed {
-        complain();
+        complain(rt);
         return;
     }
-    if io::write_all(STDOUT_FILENO, first_bytes(out, t.waiting)) {
+    if rt.write_all(first_bytes(out, t.waiting)).is_ok() {
         return;
     }
-    complain();
+    complain(rt);
 }
 
-fn complain() {
-    io::write_all(
-        STDERR_FILENO,
-        b"replay: a write to standard output failed, and the answers end there\n",
-    );
+fn complain(rt: &impl Eprint) {
+    let _ = eprintln!(rt; "replay: a write to standard output failed, and the answers end there");
 }

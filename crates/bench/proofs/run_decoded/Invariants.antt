@@ -1,0 +1,5 @@
+-- The turns that are left fall.
+use Rattle.bench.proofs.run_decoded.Given as goal
+
+abbrev pub decreases-loop-left : goal.decreases-loop-left
+decreases-loop-left l = l.left
