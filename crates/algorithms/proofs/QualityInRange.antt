@@ -1,5 +1,5 @@
 -- The quality index of an ETX from 0 to 2^j and an RTT from 0 to 2^33 ms is from 0 to 2^(j + 28); of what question 11 lets through, from 0 to 2^35.
-use Rattle.std.proofs.Common.{◌≡◌, ℕ, ◌+◌, ◌≤◌, true, T, refl, inl, zero-lt-suc, lit≤}
+use Rattle.std.proofs.Common.{◌≡◌, ℕ, ◌+◌, ◌≤◌, true, refl, inl, zero-lt-suc, lit≤}
 use lib.Ieee.{Float, binary64, emax, le}
 use Rattle.floats.specs.Operations.{zero_float, one_float, float}
 use Rattle.floats.proofs.Order.{le_transitive}

@@ -19,6 +19,7 @@ pub fn compute_etx_unchecked(d_forward: f64, d_reverse: f64) -> f64
 }
 
 // Expected transmission count from the delivery ratios of both directions.
+#[tactic(auto, unfolding(crate::specs::Etx::etx_answer, refusals::specs::Questions::first_no, refusals::specs::Questions::asked))]
 pub fn compute_etx(d_forward: f64, d_reverse: f64) -> AnswerF64
     ensures { result ≡ etx_answer d_forward d_reverse }
 {
@@ -36,6 +37,7 @@ pub fn quality_index_unchecked(etx: f64, rtt_ms: f64) -> f64
 }
 
 // The quality index of a link, path or session: lower is better, 1.0 ideal.
+#[tactic(auto, unfolding(crate::specs::Etx::quality_answer, refusals::specs::Questions::first_no, refusals::specs::Questions::asked))]
 pub fn quality_index(etx: f64, rtt_ms: f64) -> AnswerF64
     ensures { result ≡ quality_answer etx rtt_ms }
 {

@@ -40,6 +40,7 @@ impl DualEwma {
         DualEwma::new()
     }
 
+    #[tactic(auto, unfolding(crate::specs::Ewma::keeps_the_rule))]
     pub fn keeps_rule(self) -> bool
         ensures { result ≡ keeps_the_rule self }
     {
@@ -48,6 +49,7 @@ impl DualEwma {
         short & long
     }
 
+    #[tactic(auto, unfolding(crate::specs::Ewma::refusal_of, refusals::specs::Questions::first_no, refusals::specs::Questions::asked))]
     fn refusal(self) -> u8
         ensures { result ≡ refusal_of self }
     {
@@ -57,6 +59,7 @@ impl DualEwma {
     }
 
     // The step alone, for a caller that has asked its questions.
+    #[tactic(auto, unfolding(crate::specs::Ewma::stepped))]
     pub fn update_unchecked(self, sample: f64) -> DualEwma
         ensures { result ≡ stepped self sample }
     {
@@ -75,6 +78,7 @@ impl DualEwma {
         }
     }
 
+    #[tactic(auto, unfolding(crate::specs::Ewma::update_of, crate::specs::Ewma::update_refusal, refusals::specs::Questions::first_no, refusals::specs::Questions::asked))]
     pub fn update(self, sample: f64) -> EwmaUpdate
         ensures { result ≡ update_of self sample }
     {

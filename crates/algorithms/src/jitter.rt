@@ -52,6 +52,7 @@ impl JitterEstimator {
         (0 <= self.jitter_q4) & (self.jitter_q4 <= MAX_JITTER_Q4)
     }
 
+    #[tactic(auto, unfolding(crate::specs::Jitter::refusal_of, refusals::specs::Questions::first_no, refusals::specs::Questions::asked))]
     fn refusal(self) -> u8
         ensures { result ≡ refusal_of self }
     {
@@ -61,6 +62,7 @@ impl JitterEstimator {
     }
 
     // The step alone, for a caller that has asked its questions.
+    #[tactic(auto, unfolding(crate::specs::Jitter::stepped))]
     pub fn update_unchecked(self, transit_delta: i32) -> JitterEstimator
         ensures { result ≡ stepped self transit_delta }
     {
@@ -72,6 +74,7 @@ impl JitterEstimator {
     }
 
     // `transit_delta` = (R_i − R_{i−1}) − (S_i − S_{i−1}) in µs.
+    #[tactic(auto, unfolding(crate::specs::Jitter::update_of))]
     pub fn update(self, transit_delta: i32) -> JitterUpdate
         ensures { result ≡ update_of self transit_delta }
     {
@@ -88,6 +91,7 @@ impl JitterEstimator {
     }
 
     // The jitter in µs.
+    #[tactic(auto, unfolding(crate::specs::Jitter::jitter_us_of))]
     pub fn jitter_us(self) -> AnswerU32
         ensures { result ≡ jitter_us_of self }
     {

@@ -57,6 +57,7 @@ fn put_delay(delays: &mut [i64], slot: usize, owd_us: i64)
 
 impl OwdTrendDetector {
     // The rule of a window (document 01, "State rule").
+    #[tactic(auto, unfolding(crate::specs::Owd::keeps_the_rule))]
     pub fn keeps_rule(self) -> bool
         ensures { result ≡ keeps_the_rule self }
     {
@@ -85,6 +86,7 @@ impl OwdTrendDetector {
     }
 
     // A detector that keeps the last `capacity` pairs: below two no slope forms.
+    #[tactic(auto, unfolding(crate::specs::Owd::new_of))]
     pub fn new(capacity: usize) -> Self
         ensures { result ≡ new_of capacity }
     {
@@ -105,6 +107,7 @@ impl OwdTrendDetector {
     }
 
     // Forget every pair, keeping the capacity.
+    #[tactic(auto, unfolding(crate::specs::Owd::clear_answer, refusals::specs::Questions::first_no, refusals::specs::Questions::asked))]
     pub fn clear(self) -> OwdUpdate
         ensures { result ≡ clear_answer self }
     {
@@ -125,6 +128,7 @@ impl OwdTrendDetector {
     }
 
     // The slot for the next pair: after the newest, and the oldest's where the window is full.
+    #[tactic(auto, unfolding(crate::specs::Owd::free))]
     fn free(self) -> usize
         ensures { result ≡ free self }
     {
@@ -132,6 +136,7 @@ impl OwdTrendDetector {
     }
 
     // One pair more; a full window has dropped its oldest.
+    #[tactic(auto, unfolding(crate::specs::Owd::grown))]
     fn grown(self) -> Self
         ensures { result ≡ grown self }
     {
@@ -163,6 +168,7 @@ impl OwdTrendDetector {
     }
 
     // Add a pair: the receive time in ms and the delay in µs, both from a fixed reference.
+    #[tactic(auto, unfolding(crate::specs::Owd::push_answer, crate::specs::Owd::push_refusal, crate::specs::Owd::stored, refusals::specs::Questions::first_no, refusals::specs::Questions::asked))]
     pub fn push(self, times: &mut [u32], delays: &mut [i64], at_ms: u32, owd_us: i64) -> OwdUpdate
         ensures answer { result ≡ push_answer self times.old delays.old owd_us }
         ensures times { times.new ≡ stored (push_refusal self times.old delays.old owd_us) self at_ms times.old }
@@ -248,6 +254,7 @@ impl OwdTrendDetector {
     }
 
     // Question 5 of every live pair, then the trend.
+    #[tactic(auto, unfolding(crate::specs::OwdTrend::live_trend, crate::specs::OwdTrend::trend_of))]
     fn live_trend(self, times: &[u32], delays: &[i64]) -> AnswerI32
         requires { Lent self times.now delays.now }
         ensures { result ≡ live_trend (window self times.now delays.now) }

@@ -56,6 +56,7 @@ impl SpinBitState {
         }
     }
 
+    #[tactic(auto, unfolding(crate::specs::Spin::keeps_the_rule))]
     pub fn keeps_rule(self) -> bool
         ensures { result ≡ keeps_the_rule self }
     {
@@ -63,6 +64,7 @@ impl SpinBitState {
         optional_clock_ok(last_edge_ms)
     }
 
+    #[tactic(auto, unfolding(crate::specs::Spin::refusal_of, refusals::specs::Questions::first_no, refusals::specs::Questions::asked))]
     fn refusal(self) -> u8
         ensures { result ≡ refusal_of self }
     {
@@ -72,6 +74,7 @@ impl SpinBitState {
     }
 
     // Starts again with the same role, for a session whose counters start again.
+    #[tactic(auto, unfolding(crate::specs::Spin::restart_of))]
     pub fn restart(self) -> SpinUpdate
         ensures { result ≡ restart_of self }
     {
@@ -101,6 +104,7 @@ impl SpinBitState {
     }
 
     // An initiator's own bit comes back: a round trip ends, and the bit flips for the next.
+    #[tactic(auto, unfolding(crate::specs::Spin::reflected))]
     fn reflect(self, received_bit: bool, now_ms: u64) -> SpinObserved
         ensures { result ≡ reflected self received_bit now_ms }
     {
@@ -130,6 +134,7 @@ impl SpinBitState {
     }
 
     // A responder copies the bit of a frame that no later one has overtaken.
+    #[tactic(auto, unfolding(crate::specs::Spin::copied))]
     fn copy(self, received_bit: bool, counter: u64) -> SpinObserved
         ensures { result ≡ copied self received_bit counter }
     {
@@ -153,6 +158,7 @@ impl SpinBitState {
     }
 
     // The frame alone, for a caller that has asked its questions.
+    #[tactic(auto, unfolding(crate::specs::Spin::observed))]
     pub fn rx_observe_unchecked(self, received_bit: bool, counter: u64, now_ms: u64) -> SpinObserved
         ensures { result ≡ observed self received_bit counter now_ms }
     {
@@ -164,6 +170,7 @@ impl SpinBitState {
     }
 
     // A received frame's spin bit. The round trip, in ms, is an initiator's alone.
+    #[tactic(auto, unfolding(crate::specs::Spin::rx_observe_of, crate::specs::Spin::observe_refusal, refusals::specs::Questions::first_no, refusals::specs::Questions::asked))]
     pub fn rx_observe(self, received_bit: bool, counter: u64, now_ms: u64) -> SpinObserved
         ensures { result ≡ rx_observe_of self received_bit counter now_ms }
     {

@@ -42,6 +42,7 @@ impl SrttEstimator {
         SrttEstimator::new()
     }
 
+    #[tactic(auto, unfolding(crate::specs::Srtt::keeps_the_rule))]
     pub fn keeps_rule(self) -> bool
         ensures { result ≡ keeps_the_rule self }
     {
@@ -50,6 +51,7 @@ impl SrttEstimator {
         smoothed & variation
     }
 
+    #[tactic(auto, unfolding(crate::specs::Srtt::refusal_of, refusals::specs::Questions::first_no, refusals::specs::Questions::asked))]
     fn refusal(self) -> u8
         ensures { result ≡ refusal_of self }
     {
@@ -59,6 +61,7 @@ impl SrttEstimator {
     }
 
     // The step alone, for a caller that has asked its questions.
+    #[tactic(auto, unfolding(crate::specs::Srtt::stepped, crate::specs::Srtt::estimate_in, numbers::specs::RoundTrip::estimate_step))]
     pub fn update_unchecked(self, rtt_us: i64) -> SrttEstimator
         ensures { result ≡ stepped self rtt_us }
     {
@@ -83,6 +86,7 @@ impl SrttEstimator {
     }
 
     // Feeds a round trip in µs.
+    #[tactic(auto, unfolding(crate::specs::Srtt::update_of, crate::specs::Srtt::update_refusal, refusals::specs::Questions::first_no, refusals::specs::Questions::asked))]
     pub fn update(self, rtt_us: i64) -> SrttUpdate
         ensures { result ≡ update_of self rtt_us }
     {

@@ -1,6 +1,6 @@
 -- Little-endian fields of any width: reading undoes writing, writing undoes reading; equal bytes read alike.
 use Prim.Native.Nat.{ℕ, zero, suc, ◌+◌, ◌-◌, ◌*◌, ◌/◌, ◌%◌, ◌^◌, ◌≤◌, ◌<◌}
-use mathlib.Core.Path.{◌≡◌, refl, ap}
+use mathlib.Core.Path.{◌≡◌, refl, sym, ap, ap₂, ◌∙◌}
 use mathlib.Core.List.{List, [], ◌∷◌, ◌++◌}
 use lib.ListN.{length, get_or, take, drop, length-append}
 use lib.Seq.{append_snoc, drop-cons, get_or-append_seam}
@@ -29,7 +29,9 @@ read_written (suc n) x l r h =
     let ih : le_at ((l ++ (b ∷ [])) ++ ys) (length (l ++ (b ∷ []))) n ≡ x / 256 =
     read_written n (x / 256) (l ++ (b ∷ [])) r ((div-lt_iff_lt-mul {k = 256} {x = x} {y = 256 ^ n} (omega arith)).1 h') in
     let one : length (l ++ (b ∷ [])) ≡ length l + 1 = length-append l (b ∷ []) in
-    rw (get_or-append_seam l b ys 0, ← append_snoc l b ys, ← one, ih) (mod-add-div x 256)
+    let rest : le_at (l ++ (b ∷ ys)) (length l + 1) n ≡ x / 256 =
+    ap (λ (s : List ℕ). le_at s (length l + 1) n) (sym (append_snoc l b ys)) ∙ ap (λ (k : ℕ). le_at ((l ++ (b ∷ [])) ++ ys) k n) (sym one) ∙ ih in
+    ap₂ (λ (u v : ℕ). u + 256 * v) (get_or-append_seam l b ys 0) rest ∙ mod-add-div x 256
 
 pub read_bytes_lem : (n x : ℕ) → x < 256 ^ n → le_at (le_bytes n x ++ []) 0 n ≡ x
 read_bytes_lem n x h = read_written n x [] [] h

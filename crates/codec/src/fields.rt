@@ -19,6 +19,7 @@ pub fn left_at(s: &[u8], at: usize) -> usize
 }
 
 // A field that lies in the slice whole, as the caller has shown.
+#[tactic(auto, unfolding(crate::specs::LittleEndian::le_at))]
 pub(crate) fn u16_in(s: &[u8], at: usize) -> u16
     requires { at + 2 ≤ length s.now }
     ensures { result ≡ le_at s.now at 2 }
@@ -26,6 +27,7 @@ pub(crate) fn u16_in(s: &[u8], at: usize) -> u16
     u16_of(s[at], s[at + 1])
 }
 
+#[tactic(auto, unfolding(crate::specs::LittleEndian::le_at))]
 pub(crate) fn u32_in(s: &[u8], at: usize) -> u32
     requires { at + 4 ≤ length s.now }
     ensures { result ≡ le_at s.now at 4 }
@@ -33,6 +35,7 @@ pub(crate) fn u32_in(s: &[u8], at: usize) -> u32
     u32_of(s[at], s[at + 1], s[at + 2], s[at + 3])
 }
 
+#[tactic(auto, unfolding(crate::specs::LittleEndian::le_at))]
 pub(crate) fn u64_in(s: &[u8], at: usize) -> u64
     requires { at + 8 ≤ length s.now }
     ensures { result ≡ le_at s.now at 8 }
@@ -49,6 +52,7 @@ pub(crate) fn u64_in(s: &[u8], at: usize) -> u64
     )
 }
 
+#[tactic(auto, unfolding(crate::specs::LittleEndian::field_at, crate::specs::LittleEndian::le_at))]
 pub fn u8_at(s: &[u8], at: usize) -> u8
     ensures { result ≡ field_at s.now at 1 }
 {
@@ -58,6 +62,7 @@ pub fn u8_at(s: &[u8], at: usize) -> u8
     0
 }
 
+#[tactic(auto, unfolding(crate::specs::LittleEndian::field_at))]
 pub fn u16_at(s: &[u8], at: usize) -> u16
     ensures { result ≡ field_at s.now at 2 }
 {
@@ -67,6 +72,7 @@ pub fn u16_at(s: &[u8], at: usize) -> u16
     u16_in(s, at)
 }
 
+#[tactic(auto, unfolding(crate::specs::LittleEndian::field_at))]
 pub fn u32_at(s: &[u8], at: usize) -> u32
     ensures { result ≡ field_at s.now at 4 }
 {
@@ -76,6 +82,7 @@ pub fn u32_at(s: &[u8], at: usize) -> u32
     u32_in(s, at)
 }
 
+#[tactic(auto, unfolding(crate::specs::LittleEndian::field_at))]
 pub fn u64_at(s: &[u8], at: usize) -> u64
     ensures { result ≡ field_at s.now at 8 }
 {
@@ -85,6 +92,7 @@ pub fn u64_at(s: &[u8], at: usize) -> u64
     u64_in(s, at)
 }
 
+#[tactic(auto, unfolding(crate::specs::LittleEndian::field_at, crate::specs::LittleEndian::le_at))]
 pub fn i32_at(s: &[u8], at: usize) -> i32
     ensures { result ≡ to_z w32 (field_at s.now at 4) }
 {

@@ -97,6 +97,7 @@ pub fn rest(s: &[u8], at: Place) -> &[u8]
 }
 
 // The count of bytes from the start that n more make, the greatest usize where it would wrap.
+#[tactic(auto, unfolding(crate::specs::Reading::needed_for))]
 pub fn needed_for(pos: usize, n: usize) -> usize
     ensures { result ≡ needed_for pos n }
 {
@@ -107,6 +108,7 @@ pub fn needed_for(pos: usize, n: usize) -> usize
 }
 
 // Whether n more bytes are there.
+#[tactic(auto, unfolding(crate::specs::Reading::length_answer, crate::specs::Reading::needed_for))]
 pub fn require(s: &[u8], at: Place, n: usize) -> Length
     ensures { result ≡ length_answer s.now at.pos n }
 {
@@ -119,6 +121,7 @@ pub fn require(s: &[u8], at: Place, n: usize) -> Length
 }
 
 // Passes over n bytes.
+#[tactic(auto, unfolding(crate::specs::Reading::advanced, crate::specs::Reading::length_answer, crate::specs::Reading::place_after))]
 pub fn advance(s: &[u8], at: Place, n: usize) -> Advanced
     ensures { result ≡ advanced s.now at n }
 {
@@ -133,6 +136,7 @@ pub fn advance(s: &[u8], at: Place, n: usize) -> Advanced
     }
 }
 
+#[tactic(auto, unfolding(crate::specs::Reading::read_u8, crate::specs::Reading::advanced, crate::specs::Reading::length_answer, crate::specs::Reading::place_after, crate::specs::LittleEndian::field_at, crate::specs::LittleEndian::le_at))]
 pub fn read_u8(s: &[u8], at: Place) -> ReadU8
     ensures { result ≡ read_u8 s.now at }
 {
@@ -154,6 +158,7 @@ pub fn read_u8(s: &[u8], at: Place) -> ReadU8
     }
 }
 
+#[tactic(auto, unfolding(crate::specs::Reading::read_u16, crate::specs::Reading::advanced, crate::specs::Reading::length_answer, crate::specs::Reading::place_after, crate::specs::LittleEndian::field_at))]
 pub fn read_u16_le(s: &[u8], at: Place) -> ReadU16
     ensures { result ≡ read_u16 s.now at }
 {
@@ -175,6 +180,7 @@ pub fn read_u16_le(s: &[u8], at: Place) -> ReadU16
     }
 }
 
+#[tactic(auto, unfolding(crate::specs::Reading::read_u32, crate::specs::Reading::advanced, crate::specs::Reading::length_answer, crate::specs::Reading::place_after, crate::specs::LittleEndian::field_at))]
 pub fn read_u32_le(s: &[u8], at: Place) -> ReadU32
     ensures { result ≡ read_u32 s.now at }
 {
@@ -196,6 +202,7 @@ pub fn read_u32_le(s: &[u8], at: Place) -> ReadU32
     }
 }
 
+#[tactic(auto, unfolding(crate::specs::Reading::read_u64, crate::specs::Reading::advanced, crate::specs::Reading::length_answer, crate::specs::Reading::place_after, crate::specs::LittleEndian::field_at))]
 pub fn read_u64_le(s: &[u8], at: Place) -> ReadU64
     ensures { result ≡ read_u64 s.now at }
 {
@@ -218,6 +225,7 @@ pub fn read_u64_le(s: &[u8], at: Place) -> ReadU64
 }
 
 // Where the n bytes stand; no bytes at 0 where they are not there.
+#[tactic(auto, unfolding(crate::specs::Reading::read_bytes, crate::specs::Reading::length_answer, crate::specs::Reading::place_after))]
 pub fn read_bytes(s: &[u8], at: Place, n: usize) -> ReadBytes
     ensures { result ≡ read_bytes s.now at n }
 {
@@ -271,6 +279,7 @@ fn array_8(s: &[u8], at: usize) -> [u8; 8]
 }
 
 // `read_array`, one function for each width that the reports use.
+#[tactic(auto, unfolding(crate::specs::Reading::read_array2, crate::specs::Reading::advanced, crate::specs::Reading::length_answer, crate::specs::Reading::place_after, crate::specs::Reading::array_at))]
 pub fn read_array_2(s: &[u8], at: Place) -> ReadArray2
     ensures { result ≡ read_array2 s.now at }
 {
@@ -292,6 +301,7 @@ pub fn read_array_2(s: &[u8], at: Place) -> ReadArray2
     }
 }
 
+#[tactic(auto, unfolding(crate::specs::Reading::read_array4, crate::specs::Reading::advanced, crate::specs::Reading::length_answer, crate::specs::Reading::place_after, crate::specs::Reading::array_at))]
 pub fn read_array_4(s: &[u8], at: Place) -> ReadArray4
     ensures { result ≡ read_array4 s.now at }
 {
@@ -313,6 +323,7 @@ pub fn read_array_4(s: &[u8], at: Place) -> ReadArray4
     }
 }
 
+#[tactic(auto, unfolding(crate::specs::Reading::read_array8, crate::specs::Reading::advanced, crate::specs::Reading::length_answer, crate::specs::Reading::place_after, crate::specs::Reading::array_at))]
 pub fn read_array_8(s: &[u8], at: Place) -> ReadArray8
     ensures { result ≡ read_array8 s.now at }
 {

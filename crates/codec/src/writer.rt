@@ -20,6 +20,7 @@ pub fn new() -> Place
 }
 
 // A writer at the start of a buffer with room for n bytes.
+#[tactic(auto, unfolding(crate::specs::Writing::room_for))]
 pub fn with_capacity(b: &[u8], n: usize) -> Written
     ensures { result ≡ room_for b.now n }
 {
@@ -36,6 +37,7 @@ pub fn with_capacity(b: &[u8], n: usize) -> Written
 }
 
 // The answer to a write of n bytes.
+#[tactic(auto, unfolding(crate::specs::Writing::written, crate::specs::Reading::place_after))]
 fn answer(b: &[u8], at: Place, n: usize) -> Written
     ensures { result ≡ written b.now at n }
 {

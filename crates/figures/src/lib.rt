@@ -30,6 +30,7 @@ pub struct Counters {
 }
 
 // Whether a report is stale beside the counters of the one that is kept: one of them fell, or all five are equal.
+#[tactic(auto, unfolding(crate::specs::Stale::stale, crate::specs::Stale::fell, crate::specs::Stale::same))]
 pub fn is_stale(kept: Counters, rr: ReceiverReport) -> bool
     ensures { result ≡ stale (saved kept) rr }
 {
@@ -71,6 +72,7 @@ pub enum RoundTrip {
 }
 
 // Our time less the echo and the dwell.
+#[tactic(auto, unfolding(crate::specs::RoundTrips::round_trip))]
 pub fn round_trip(rr: ReceiverReport, our_timestamp_ms: u32) -> RoundTrip
     ensures { result ≡ round_trip rr our_timestamp_ms }
 {
@@ -127,6 +129,7 @@ pub fn tallies_ok(
 // --- Delivery ---
 
 // The packets that came of those that were sent, from 0 to 1. The caller leaves a span of 0 out.
+#[tactic(auto, unfolding(crate::specs::Delivery::delivery_ratio, floats::specs::Operations::clamped, floats::specs::Operations::rounded_quotient))]
 pub fn delivery_ratio_unchecked(packets: u64, span: u64) -> f64
     ensures { result ≡ delivery_ratio packets span }
 {
@@ -143,6 +146,7 @@ pub fn goodput_ok(x: f64) -> bool
 }
 
 // The first rate is the goodput; a later one moves it by one quarter.
+#[tactic(auto, unfolding(crate::specs::Goodput::toward_rate))]
 fn toward_rate(goodput: f64, bps: f64) -> f64
     ensures { result ≡ toward_rate goodput bps }
 {
@@ -167,6 +171,7 @@ fn goodput_over(goodput: f64, bytes: u64, ms: u64) -> f64
 }
 
 // The goodput after a report. Without the time of the one before it stays; a clock that fell counts as no time.
+#[tactic(auto, unfolding(crate::specs::Goodput::goodput_after, crate::specs::Goodput::goodput_over, crate::specs::Goodput::toward_rate, crate::specs::Goodput::rate_of, crate::specs::Goodput::seconds_of))]
 pub fn goodput_after_unchecked(goodput: f64, bytes: u64, prev_ms: OptionU64, now_ms: u64) -> f64
     ensures { result ≡ goodput_after goodput bytes prev_ms now_ms }
 {

@@ -33,6 +33,7 @@ pub struct GapStats {
 
 impl GapTracker {
     // Question 1 alone, for a call with no other.
+    #[tactic(auto, unfolding(crate::specs::Checked::refusal_of, crate::specs::Gaps::keeps_the_rule, crate::specs::Gaps::finished_bursts, refusals::specs::Questions::first_no, refusals::specs::Questions::asked))]
     fn refusal(self) -> u8
         ensures { result ≡ refusal_of self }
     {
@@ -42,6 +43,7 @@ impl GapTracker {
     }
 
     // Process a received counter value, unless the count of bursts can't hold the one that it begins.
+    #[tactic(auto, unfolding(crate::specs::Checked::observe_of, crate::specs::Checked::observe_refusal, crate::specs::Gaps::keeps_the_rule, crate::specs::Gaps::finished_bursts, refusals::specs::Questions::first_no, crate::specs::Gaps::observed, crate::specs::Gaps::arrival_after, crate::specs::Gaps::next_after, crate::specs::Gaps::gap_observed, crate::specs::Gaps::burst_finished, crate::specs::Gaps::gap_counted, refusals::specs::Questions::asked))]
     pub fn observe(self, counter: u64) -> GapObserved
         ensures { result ≡ observe_of self counter }
     {
@@ -69,6 +71,7 @@ impl GapTracker {
     }
 
     // Finish the current burst and record its stats. The rule bounds the sum of the lengths, so no counter is asked about.
+    #[tactic(auto, unfolding(crate::specs::Checked::finish_of, crate::specs::Gaps::burst_finished, crate::specs::Checked::refusal_of, crate::specs::Gaps::keeps_the_rule, crate::specs::Gaps::finished_bursts, refusals::specs::Questions::first_no))]
     pub fn finish_burst(self) -> GapUpdate
         ensures { result ≡ finish_of self }
     {
@@ -85,6 +88,7 @@ impl GapTracker {
     }
 
     // Get interval stats and reset for next interval.
+    #[tactic(auto, unfolding(crate::specs::Checked::take_of, crate::specs::Checked::refusal_of, crate::specs::Gaps::keeps_the_rule, crate::specs::Gaps::finished_bursts, refusals::specs::Questions::first_no, crate::specs::Stats::stats_of, crate::specs::Stats::mean_burst, crate::specs::Gaps::burst_finished))]
     pub fn take_interval_stats(self) -> GapStats
         ensures { result ≡ take_of self }
     {

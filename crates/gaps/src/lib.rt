@@ -87,6 +87,7 @@ pub fn lost_before(arrival: Arrival) -> u64
 }
 
 // Where a counter stands beside the expected one.
+#[tactic(auto, unfolding(crate::specs::Gaps::arrival_after))]
 fn arrival_after(expected: u64, counter: u64) -> Arrival
     ensures { result ≡ arrival_after expected counter }
 {
@@ -100,6 +101,7 @@ fn arrival_after(expected: u64, counter: u64) -> Arrival
 }
 
 // The counter expected after this one, or the one expected before where the frame is late.
+#[tactic(auto, unfolding(crate::specs::Gaps::next_after))]
 fn next_after(expected: u64, counter: u64) -> u64
     ensures { result ≡ next_after expected counter }
 {
@@ -121,6 +123,7 @@ fn gap_at(expected_next: OptionU64, counter: u64) -> u64
 }
 
 // The mean length in 1/256 of a frame, by whole numbers. From 256 frames on it is past what 16 bits hold.
+#[tactic(auto, unfolding(crate::specs::Stats::mean_burst))]
 pub fn mean_burst(total: u64, count: u32) -> u16
     ensures { result ≡ mean_burst total count }
 {
@@ -149,6 +152,7 @@ impl GapTracker {
     }
 
     // The bursts that have ended: the one under way is counted already.
+    #[tactic(auto, unfolding(crate::specs::Gaps::finished_bursts))]
     fn finished_bursts(self) -> u32
         ensures { result ≡ finished_bursts self }
     {
@@ -159,6 +163,7 @@ impl GapTracker {
         }
     }
 
+    #[tactic(auto, unfolding(crate::specs::Gaps::keeps_the_rule, crate::specs::Gaps::finished_bursts))]
     pub fn keeps_rule(self) -> bool
         ensures { result ≡ keeps_the_rule self }
     {
@@ -199,6 +204,7 @@ impl GapTracker {
     }
 
     // Finish the current burst and record its stats.
+    #[tactic(auto, unfolding(crate::specs::Gaps::burst_finished))]
     pub fn finish_burst_unchecked(self) -> GapTracker
         ensures { result ≡ burst_finished self }
     {
@@ -215,6 +221,7 @@ impl GapTracker {
     }
 
     // A gap begins a burst, or extends the one under way.
+    #[tactic(auto, unfolding(crate::specs::Gaps::gap_counted))]
     fn count_gap(self, gap: u64) -> GapTracker
         ensures { result ≡ gap_counted self gap }
     {
@@ -230,6 +237,7 @@ impl GapTracker {
     }
 
     // A frame in order ends a burst.
+    #[tactic(auto, unfolding(crate::specs::Gaps::gap_observed, crate::specs::Gaps::gap_counted, crate::specs::Gaps::burst_finished))]
     fn observe_gap(self, gap: u64) -> GapTracker
         ensures { result ≡ gap_observed self gap }
     {
@@ -241,6 +249,7 @@ impl GapTracker {
     }
 
     // Process a received counter value. The first frame only says which counter is expected next.
+    #[tactic(auto, unfolding(crate::specs::Gaps::observed, crate::specs::Gaps::arrival_after, crate::specs::Gaps::gap_observed, crate::specs::Gaps::gap_counted, crate::specs::Gaps::burst_finished, crate::specs::Gaps::next_after))]
     pub fn observe_unchecked(self, counter: u64) -> Observed
         ensures { result ≡ observed self counter }
     {
@@ -262,6 +271,7 @@ impl GapTracker {
     }
 
     // Get interval stats and reset for next interval. An open burst ends.
+    #[tactic(auto, unfolding(crate::specs::Stats::stats_of, crate::specs::Stats::mean_burst, crate::specs::Gaps::burst_finished))]
     pub fn take_interval_stats_unchecked(self) -> IntervalStats
         ensures { result ≡ stats_of self }
     {

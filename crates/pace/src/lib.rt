@@ -23,6 +23,7 @@ pub struct Paced {
 }
 
 // The refusal of a cold-start interval.
+#[tactic(auto, unfolding(crate::specs::Updates::cold_start_refusal, refusals::specs::Questions::first_no, refusals::specs::Questions::asked))]
 pub fn cold_start_refusal(cold_start_ms: u64) -> u8
     ensures { result ≡ cold_start_refusal cold_start_ms }
 {
@@ -32,6 +33,7 @@ pub fn cold_start_refusal(cold_start_ms: u64) -> u8
 }
 
 // The interval of so many times SRTT between the bounds, and the updates counted with this one.
+#[tactic(auto, unfolding(crate::specs::Updates::updated, crate::specs::Intervals::next_interval, crate::specs::Intervals::clamped))]
 fn update(
     refusal: u8,
     multiple: u8,
@@ -62,6 +64,7 @@ fn update(
 }
 
 // The interval from SRTT, between the link layer's bounds. The update is counted, and the first few have a lower floor.
+#[tactic(auto, unfolding(crate::specs::Updates::from_srtt, crate::specs::Updates::updated, crate::specs::Intervals::next_interval, crate::specs::Intervals::clamped, crate::specs::Intervals::floor_at, crate::specs::Updates::from_srtt_refusal, refusals::specs::Questions::first_no, refusals::specs::Questions::asked))]
 pub fn from_srtt(state_ok: bool, multiple: u8, interval_ms: u64, count: u32, srtt_us: i64) -> Paced
     ensures { result ≡ from_srtt state_ok multiple interval_ms count srtt_us }
 {
@@ -83,6 +86,7 @@ pub fn from_srtt(state_ok: bool, multiple: u8, interval_ms: u64, count: u32, srt
 }
 
 // The interval from SRTT, between bounds of the caller's. The update is not counted.
+#[tactic(auto, unfolding(crate::specs::Updates::with_bounds, crate::specs::Updates::updated, crate::specs::Intervals::next_interval, crate::specs::Intervals::clamped, crate::specs::Updates::with_bounds_refusal, refusals::specs::Questions::first_no, refusals::specs::Questions::asked))]
 pub fn with_bounds(
     state_ok: bool,
     multiple: u8,

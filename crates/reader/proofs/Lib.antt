@@ -1,4 +1,4 @@
--- The walks of functions over a held payload.
+-- What functions over a held payload come to, for every read and every question.
 mod Beside
 mod WrittenOut
 mod Held

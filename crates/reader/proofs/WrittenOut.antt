@@ -11,9 +11,11 @@ row_as τ R =
       mir = τ ∷ [];
       written = R.written;
       reaches = R.reaches;
-      own_val = R.own;
+      lives = R.lives;
+      own_val = R.own_val;
       exit = R.exit;
       coded = R.coded;
+      shr_at = R.shr_at;
     }
 
 abbrev pub field_as : Ty → Field → Field

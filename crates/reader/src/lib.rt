@@ -1,4 +1,4 @@
-// `Reader`, holding the payload that it was given: thin functions over those on a slice and a place. Their MIR is walked by hand, once for each form.
+// `Reader`, holding the payload that it was given: thin functions over those on a slice and a place.
 // A `read_*` moves the position past what it read, and one that is too short leaves it; a `decode_*` leaves it.
 
 #![tactic(auto)]
@@ -14,7 +14,7 @@ use codec::fields::left_at;
 use codec::reader::{ReadArray2, ReadArray4, ReadArray8, ReadU8, ReadU16, ReadU32, ReadU64};
 use codec::{Place, reader};
 
-#[derive(Drop)]
+#[derive(Clone, Copy)]
 pub struct Reader<'a> {
     pub buf: &'a [u8],
     pub pos: usize,

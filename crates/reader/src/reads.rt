@@ -1,4 +1,4 @@
-// Each read by a reader that is made at a position of a payload, and what a new one has left: a caller of these needs no walk by hand.
+// Each read by a reader that is made at a position of a payload, and what a new one has left.
 ghost use Rattle.std.specs.Prelude.{◌≡◌, length};
 ghost use Rattle.codec.specs.Reading.{read_u8, read_u16, read_u32, read_u64, read_array2, read_array4, read_array8};
 ghost use Rattle.reader.specs.Held.{place_at};

@@ -22,13 +22,15 @@ impl<'a> Reader<'a> {
     }
 }
 
-// The same answer as `SenderReport::decode`: a caller of this needs no walk by hand.
+// The same answer as `SenderReport::decode`.
+#[tactic(auto, unfolding(wire::specs::SenderReport::decoded, wire::specs::SenderReport::decoded_at))]
 pub fn decode_sender_report(payload: &[u8]) -> SenderReportDecoded
     ensures { result ≡ Sender.decoded payload.now }
 {
     Reader::new(payload).decode_sender_report()
 }
 
+#[tactic(auto, unfolding(wire::specs::ReceiverReport::decoded, wire::specs::ReceiverReport::decoded_at))]
 pub fn decode_receiver_report(payload: &[u8]) -> ReceiverReportDecoded
     ensures { result ≡ Receiver.decoded payload.now }
 {

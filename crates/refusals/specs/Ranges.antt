@@ -1,5 +1,5 @@
 -- The numbers that the questions of document 01, "Before any figure: the checks", allow. Definitions only.
-use Rattle.std.specs.Prelude.{Bool, true, false, ◌&&◌, ◌||◌, ℕ, ◌+◌, ◌-◌, ◌^◌, leb, ltb, ℤ, pos, neg_ℤ, Float}
+use Rattle.std.specs.Prelude.{Bool, true, ◌&&◌, ◌||◌, ℕ, ◌+◌, ◌-◌, ◌^◌, leb, ltb, ℤ, pos, neg_ℤ, Float}
 use Rattle.std.specs.Int.Signed.{le_z}
 use Rattle.floats.specs.Operations.{zero_float, one_float, float, in_range}
 use Rattle.refusals.specs.declared.option.OptionU64.{OptionU64}

@@ -60,6 +60,7 @@ pub struct AnswerOptionF64 {
 }
 
 impl AnswerU32 {
+    #[tactic(auto, unfolding(crate::specs::Answers::answer_u32))]
     pub fn of(refusal: u8, value: u32) -> AnswerU32
         ensures { result ≡ answer_u32 refusal value }
     {
@@ -72,6 +73,7 @@ impl AnswerU32 {
 }
 
 impl AnswerU64 {
+    #[tactic(auto, unfolding(crate::specs::Answers::answer_u64))]
     pub fn of(refusal: u8, value: u64) -> AnswerU64
         ensures { result ≡ answer_u64 refusal value }
     {
@@ -84,6 +86,7 @@ impl AnswerU64 {
 }
 
 impl AnswerI64 {
+    #[tactic(auto, unfolding(crate::specs::Answers::answer_i64))]
     pub fn of(refusal: u8, value: i64) -> AnswerI64
         ensures { result ≡ answer_i64 refusal value }
     {
@@ -96,6 +99,7 @@ impl AnswerI64 {
 }
 
 impl AnswerF64 {
+    #[tactic(auto, unfolding(crate::specs::Answers::answer_f64))]
     pub fn of(refusal: u8, value: f64) -> AnswerF64
         ensures { result ≡ answer_f64 refusal value }
     {
@@ -122,6 +126,7 @@ impl AnswerBool {
 }
 
 impl AnswerOptionU32 {
+    #[tactic(auto, unfolding(crate::specs::Answers::answer_option_u32))]
     pub fn of(refusal: u8, value: OptionU32) -> AnswerOptionU32
         ensures { result ≡ answer_option_u32 refusal value }
     {
@@ -138,6 +143,7 @@ impl AnswerOptionU32 {
 }
 
 impl AnswerOptionU64 {
+    #[tactic(auto, unfolding(crate::specs::Answers::answer_option_u64))]
     pub fn of(refusal: u8, value: OptionU64) -> AnswerOptionU64
         ensures { result ≡ answer_option_u64 refusal value }
     {
@@ -154,6 +160,7 @@ impl AnswerOptionU64 {
 }
 
 impl AnswerOptionF64 {
+    #[tactic(auto, unfolding(crate::specs::Answers::answer_option_f64))]
     pub fn of(refusal: u8, value: OptionF64) -> AnswerOptionF64
         ensures { result ≡ answer_option_f64 refusal value }
     {

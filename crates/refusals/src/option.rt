@@ -25,6 +25,7 @@ pub enum OptionF64 {
 }
 
 // Rust's `there.then_some(value)`.
+#[tactic(auto, unfolding(crate::specs::Answers::then_some))]
 pub fn then_some(there: bool, value: f64) -> OptionF64
     ensures { result ≡ then_some there value }
 {
@@ -36,6 +37,7 @@ pub fn then_some(there: bool, value: f64) -> OptionF64
 }
 
 // Rust's `value.unwrap_or(0)`.
+#[tactic(auto, unfolding(crate::specs::Answers::or_zero))]
 pub fn unwrap_or_zero(value: OptionU64) -> u64
     ensures { result ≡ or_zero value }
 {

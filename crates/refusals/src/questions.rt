@@ -51,6 +51,7 @@ impl Questions {
     }
 
     // The refusal: the number of the first question that is answered no, or 0.
+    #[tactic(auto, unfolding(crate::specs::Questions::first_no, crate::specs::Questions::asked))]
     pub fn first_no(self) -> u8
         ensures { result ≡ first_no (asked self) }
     {

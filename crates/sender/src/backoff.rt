@@ -30,6 +30,7 @@ const MAX_DOUBLINGS: u32 = 5;
 const MAX_BACKOFF: u64 = 1 << MAX_DOUBLINGS;
 
 // How many times longer the interval is after so many failures in a row: 2^failures, at most 32.
+#[tactic(auto, unfolding(crate::specs::Backoff::backoff))]
 pub fn backoff_of(failures: u32) -> u64
     ensures { result ≡ backoff failures }
 {
@@ -48,6 +49,7 @@ fn multiplier_of(failures: u32) -> f64
 }
 
 impl SenderState {
+    #[tactic(auto, unfolding(crate::specs::Backoff::failure_of, crate::specs::Backoff::failure_refusal, refusals::specs::Questions::first_no, crate::specs::State::keeps_the_rule, refusals::specs::Questions::asked))]
     pub fn record_send_failure(self) -> SendFailure
         ensures { result ≡ failure_of self }
     {
@@ -73,6 +75,7 @@ impl SenderState {
         }
     }
 
+    #[tactic(auto, unfolding(crate::specs::Backoff::success_of, crate::specs::State::refusal_of, refusals::specs::Questions::first_no, crate::specs::State::keeps_the_rule))]
     pub fn record_send_success(self) -> SendSuccess
         ensures { result ≡ success_of self }
     {
@@ -95,6 +98,7 @@ impl SenderState {
     }
 
     // By how much send failures multiply the interval.
+    #[tactic(auto, unfolding(crate::specs::Backoff::multiplier, crate::specs::State::refusal_of, refusals::specs::Questions::first_no, crate::specs::State::keeps_the_rule, refusals::specs::Answers::answer_f64))]
     pub fn send_failure_backoff_multiplier(self) -> AnswerF64
         ensures { result ≡ multiplier_of self }
     {

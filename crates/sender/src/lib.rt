@@ -94,6 +94,7 @@ impl SenderState {
     }
 
     // With a cold-start interval of the caller's.
+    #[tactic(auto, unfolding(crate::specs::State::new_of, pace::specs::Updates::cold_start_refusal, refusals::specs::Questions::first_no))]
     pub fn new_with_cold_start(cold_start_ms: u64) -> SenderNew
         ensures { result ≡ new_of cold_start_ms }
     {
@@ -107,6 +108,7 @@ impl SenderState {
         }
     }
 
+    #[tactic(auto, unfolding(crate::specs::State::keeps_the_rule))]
     pub fn keeps_rule(self) -> bool
         ensures { result ≡ keeps_the_rule self }
     {
@@ -115,6 +117,7 @@ impl SenderState {
         last_report & interval
     }
 
+    #[tactic(auto, unfolding(crate::specs::State::refusal_of, refusals::specs::Questions::first_no, crate::specs::State::keeps_the_rule, refusals::specs::Questions::asked))]
     fn refusal(self) -> u8
         ensures { result ≡ refusal_of self }
     {
@@ -125,30 +128,35 @@ impl SenderState {
 
     // --- Accessors ---
 
+    #[tactic(auto, unfolding(crate::specs::State::refusal_of, refusals::specs::Questions::first_no, crate::specs::State::keeps_the_rule, refusals::specs::Answers::answer_u64))]
     fn answer_u64(self, value: u64) -> AnswerU64
         ensures { result ≡ answer_u64 (refusal_of self) value }
     {
         AnswerU64::of(self.refusal(), value)
     }
 
+    #[tactic(auto, unfolding(crate::specs::State::refusal_of, refusals::specs::Questions::first_no, crate::specs::State::keeps_the_rule, refusals::specs::Answers::answer_u64))]
     pub fn cumulative_packets_sent(self) -> AnswerU64
         ensures { result ≡ packets_of self }
     {
         self.answer_u64(self.cumulative_packets_sent)
     }
 
+    #[tactic(auto, unfolding(crate::specs::State::refusal_of, refusals::specs::Questions::first_no, crate::specs::State::keeps_the_rule, refusals::specs::Answers::answer_u64))]
     pub fn cumulative_bytes_sent(self) -> AnswerU64
         ensures { result ≡ bytes_of self }
     {
         self.answer_u64(self.cumulative_bytes_sent)
     }
 
+    #[tactic(auto, unfolding(crate::specs::State::refusal_of, refusals::specs::Questions::first_no, crate::specs::State::keeps_the_rule, refusals::specs::Answers::answer_u64))]
     pub fn report_interval_ms(self) -> AnswerU64
         ensures { result ≡ interval_of self }
     {
         self.answer_u64(self.report_interval_ms)
     }
 
+    #[tactic(auto, unfolding(crate::specs::State::refusal_of, refusals::specs::Questions::first_no, crate::specs::State::keeps_the_rule, refusals::specs::Answers::answer_u32))]
     pub fn consecutive_send_failures(self) -> AnswerU32
         ensures { result ≡ failures_of self }
     {

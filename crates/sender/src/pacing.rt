@@ -29,6 +29,7 @@ impl SenderState {
     }
 
     // The interval from SRTT, between the link layer's bounds. The update is counted, and the first few have a lower floor.
+    #[tactic(auto, unfolding(crate::specs::Pacing::from_srtt_of, pace::specs::Updates::from_srtt, pace::specs::Updates::from_srtt_refusal, refusals::specs::Questions::first_no, pace::specs::Intervals::floor_at, pace::specs::Updates::updated, pace::specs::Intervals::next_interval, pace::specs::Intervals::clamped, crate::specs::State::keeps_the_rule))]
     pub fn update_report_interval_from_srtt(self, srtt_us: i64) -> SenderUpdate
         ensures { result ≡ from_srtt_of self srtt_us }
     {
@@ -43,6 +44,7 @@ impl SenderState {
     }
 
     // The interval from SRTT, between bounds of the caller's.
+    #[tactic(auto, unfolding(crate::specs::Pacing::with_bounds_of, pace::specs::Updates::with_bounds, pace::specs::Updates::with_bounds_refusal, refusals::specs::Questions::first_no, pace::specs::Updates::updated, pace::specs::Intervals::next_interval, pace::specs::Intervals::clamped, crate::specs::State::keeps_the_rule))]
     pub fn update_report_interval_with_bounds(
         self,
         srtt_us: i64,
@@ -64,6 +66,7 @@ impl SenderState {
     }
 
     // Frames have been sent, and the effective interval has passed since the last report, if there was one.
+    #[tactic(auto, unfolding(crate::specs::Pacing::is_due, crate::specs::Backoff::backoff))]
     fn due(self, now_ms: u64) -> bool
         requires { self.report_interval_ms ≤ max_clock }
         ensures { result ≡ is_due self now_ms }
@@ -74,6 +77,7 @@ impl SenderState {
     }
 
     // Whether it is time to send a report.
+    #[tactic(auto, unfolding(crate::specs::Pacing::should_send_of, crate::specs::Reports::report_refusal, refusals::specs::Questions::first_no, crate::specs::State::keeps_the_rule, crate::specs::Pacing::is_due, crate::specs::Backoff::backoff, refusals::specs::Questions::asked))]
     pub fn should_send_report(self, now_ms: u64) -> AnswerBool
         ensures { result ≡ should_send_of self now_ms }
     {

@@ -46,6 +46,7 @@ impl SenderState {
     }
 
     // The report alone, for a caller that has asked its questions. It ends the interval.
+    #[tactic(auto, unfolding(crate::specs::Reports::built, wire::specs::SenderReport::no_report))]
     fn build(self, now_ms: u64) -> SenderReportBuilt
         ensures { result ≡ built self now_ms }
     {
@@ -68,6 +69,7 @@ impl SenderState {
     }
 
     // No report where no frame has been sent since the last one.
+    #[tactic(auto, unfolding(crate::specs::Reports::built_of, crate::specs::Reports::report_refusal, refusals::specs::Questions::first_no, crate::specs::State::keeps_the_rule, crate::specs::Reports::built, wire::specs::SenderReport::no_report, refusals::specs::Questions::asked))]
     pub fn build_report(self, now_ms: u64) -> SenderReportBuilt
         ensures { result ≡ built_of self now_ms }
     {

@@ -13,6 +13,7 @@ use refusals::ranges::{counter_u64_ok, frame_size_ok};
 
 impl SenderState {
     // The first frame of an interval is its start.
+    #[tactic(auto, unfolding(crate::specs::Sent::opened))]
     fn open(self, counter: u64, timestamp: u32) -> SenderState
         ensures { result ≡ opened self counter timestamp }
     {
@@ -27,6 +28,7 @@ impl SenderState {
     }
 
     // The number of the first question that refuses the frame, where one does: if it is neither the rule nor the size, it is the counters.
+    #[tactic(auto, unfolding(refusals::specs::Questions::first_no, crate::specs::State::keeps_the_rule, refusals::specs::Questions::asked))]
     fn sent_no(self, bytes: usize) -> u8
         ensures { result ≡ first_no (question 1 (keeps_the_rule self) ∷ question 3 (frame_size_ok bytes) ∷ question 10 false ∷ []) }
     {
@@ -38,6 +40,7 @@ impl SenderState {
     }
 
     // The refusal of a frame. The tests stand in the order in which the compiler makes each a compare and a branch: the bytes' sum is then its own test.
+    #[tactic(auto, unfolding(crate::specs::Sent::sent_refusal, refusals::specs::Questions::first_no, crate::specs::State::keeps_the_rule))]
     fn sent_refusal(self, bytes: usize) -> u8
         ensures { result ≡ sent_refusal self bytes }
     {
@@ -57,6 +60,7 @@ impl SenderState {
     }
 
     // Records a frame sent: its counter, its session-relative timestamp in ms and its size.
+    #[tactic(auto, unfolding(crate::specs::Sent::sent_of, crate::specs::Sent::sent_refusal, refusals::specs::Questions::first_no, crate::specs::State::keeps_the_rule, crate::specs::Sent::sent, crate::specs::Sent::opened))]
     pub fn record_sent(self, counter: u64, timestamp: u32, bytes: usize) -> SenderUpdate
         ensures { result ≡ sent_of self counter timestamp bytes }
     {

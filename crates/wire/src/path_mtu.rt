@@ -39,6 +39,7 @@ impl PathMtuNotification {
         0
     }
 
+    #[tactic(auto, unfolding(crate::specs::PathMtu::decoded, crate::specs::PathMtu::decoded_by, codec::specs::Reading::length_answer, codec::specs::Reading::needed_for, codec::specs::Reading::values_of, codec::specs::Reading::by_length))]
     pub fn decode(body: &[u8]) -> PathMtuDecoded
         ensures { result ≡ decoded body.now }
     {

@@ -6,6 +6,7 @@ ghost use Rattle.codec.specs.LittleEndian.{field_at};
 
 use codec::words::{i32_of, u16_of, u32_of, u64_of};
 
+#[tactic(auto, unfolding(codec::specs::LittleEndian::le_at, codec::specs::LittleEndian::field_at))]
 pub(crate) fn u16_in(s: &[u8], at: usize) -> u16
     requires { at + 2 ≤ length s.now }
     ensures { result ≡ field_at s.now at 2 }
@@ -13,6 +14,7 @@ pub(crate) fn u16_in(s: &[u8], at: usize) -> u16
     u16_of(s[at], s[at + 1])
 }
 
+#[tactic(auto, unfolding(codec::specs::LittleEndian::le_at, codec::specs::LittleEndian::field_at))]
 pub(crate) fn u32_in(s: &[u8], at: usize) -> u32
     requires { at + 4 ≤ length s.now }
     ensures { result ≡ field_at s.now at 4 }
@@ -20,6 +22,7 @@ pub(crate) fn u32_in(s: &[u8], at: usize) -> u32
     u32_of(s[at], s[at + 1], s[at + 2], s[at + 3])
 }
 
+#[tactic(auto, unfolding(codec::specs::LittleEndian::le_at, codec::specs::LittleEndian::field_at))]
 pub(crate) fn u64_in(s: &[u8], at: usize) -> u64
     requires { at + 8 ≤ length s.now }
     ensures { result ≡ field_at s.now at 8 }
@@ -36,6 +39,7 @@ pub(crate) fn u64_in(s: &[u8], at: usize) -> u64
     )
 }
 
+#[tactic(auto, unfolding(codec::specs::LittleEndian::le_at, codec::specs::LittleEndian::field_at))]
 pub(crate) fn i32_in(s: &[u8], at: usize) -> i32
     requires { at + 4 ≤ length s.now }
     ensures { result ≡ to_z w32 (field_at s.now at 4) }

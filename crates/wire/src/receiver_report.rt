@@ -44,11 +44,12 @@ impl ReceiverReport {
             return 6;
         }
         let block = block_of(self);
-        bytes::copy(&block, out);
+        out[..68].copy_from_slice(&block);
         0
     }
 
     // The payload starts at the reserved bytes, after the type byte.
+    #[tactic(auto, unfolding(crate::specs::ReceiverReport::decoded, crate::specs::ReceiverReport::decoded_at))]
     pub fn decode(payload: &[u8]) -> ReceiverReportDecoded
         ensures { result ≡ decoded payload.now }
     {
@@ -56,6 +57,7 @@ impl ReceiverReport {
     }
 }
 
+#[tactic(auto, unfolding(crate::specs::ReceiverReport::no_report))]
 pub fn no_report() -> ReceiverReport
     ensures { result ≡ no_report }
 {
@@ -78,6 +80,7 @@ pub fn no_report() -> ReceiverReport
 }
 
 // The report from a position of the payload on; the needed length is counted from the payload's start.
+#[tactic(auto, unfolding(crate::specs::ReceiverReport::decoded_at, crate::specs::ReceiverReport::decoded_by, codec::specs::Reading::length_answer, codec::specs::Reading::needed_for, codec::specs::Reading::values_of, codec::specs::Reading::by_length))]
 pub fn decode_at(payload: &[u8], pos: usize) -> ReceiverReportDecoded
     ensures { result ≡ decoded_at payload.now pos }
 {
@@ -98,6 +101,7 @@ pub fn decode_at(payload: &[u8], pos: usize) -> ReceiverReportDecoded
 }
 
 // The fields of a payload whose length has been asked for.
+#[tactic(auto, unfolding(crate::specs::ReceiverReport::report_in))]
 fn report_in(s: &[u8]) -> ReceiverReport
     requires { 67 ≤ length s.now }
     ensures { result ≡ report_in s.now }
@@ -166,6 +170,7 @@ fn with_interval(block: [u8; 68], r: ReceiverReport) -> [u8; 68]
 }
 
 // The report's bytes, made up in one block of 68 zero bytes.
+#[tactic(auto, using(crate::proofs::Blocks::receiver_block))]
 fn block_of(r: ReceiverReport) -> [u8; 68]
     ensures { result ≡ encoded r }
 {

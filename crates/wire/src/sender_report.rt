@@ -38,11 +38,12 @@ impl SenderReport {
             return 6;
         }
         let block = block_of(self);
-        bytes::copy(&block, out);
+        out[..48].copy_from_slice(&block);
         0
     }
 
     // The payload starts at the reserved bytes, after the type byte.
+    #[tactic(auto, unfolding(crate::specs::SenderReport::decoded, crate::specs::SenderReport::decoded_at))]
     pub fn decode(payload: &[u8]) -> SenderReportDecoded
         ensures { result ≡ decoded payload.now }
     {
@@ -51,6 +52,7 @@ impl SenderReport {
 }
 
 // Every field 0, where there is no report.
+#[tactic(auto, unfolding(crate::specs::SenderReport::no_report))]
 pub fn no_report() -> SenderReport
     ensures { result ≡ no_report }
 {
@@ -66,6 +68,7 @@ pub fn no_report() -> SenderReport
 }
 
 // The report from a position of the payload on; the needed length is counted from the payload's start.
+#[tactic(auto, unfolding(crate::specs::SenderReport::decoded_at, crate::specs::SenderReport::decoded_by, codec::specs::Reading::length_answer, codec::specs::Reading::needed_for, codec::specs::Reading::values_of, codec::specs::Reading::by_length))]
 pub fn decode_at(payload: &[u8], pos: usize) -> SenderReportDecoded
     ensures { result ≡ decoded_at payload.now pos }
 {
@@ -86,6 +89,7 @@ pub fn decode_at(payload: &[u8], pos: usize) -> SenderReportDecoded
 }
 
 // The fields of a payload whose length has been asked for.
+#[tactic(auto, unfolding(crate::specs::SenderReport::report_in))]
 fn report_in(s: &[u8]) -> SenderReport
     requires { 47 ≤ length s.now }
     ensures { result ≡ report_in s.now }
@@ -130,6 +134,7 @@ fn with_totals(block: [u8; 48], r: SenderReport) -> [u8; 48]
     b
 }
 
+#[tactic(auto, using(crate::proofs::Blocks::sender_block))]
 fn block_of(r: SenderReport) -> [u8; 48]
     ensures { result ≡ encoded r }
 {
