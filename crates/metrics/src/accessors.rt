@@ -12,6 +12,7 @@ use refusals::option::then_some;
 
 impl MmpMetrics {
     // Smoothed RTT in milliseconds, once measured.
+    #[tactic(auto, unfolding(crate::specs::Accessors::srtt_ms_of))]
     pub fn srtt_ms(self) -> AnswerOptionF64
         ensures { result ≡ srtt_ms_of self }
     {
@@ -20,6 +21,7 @@ impl MmpMetrics {
     }
 
     // Loss rate (0.0 = no loss, 1.0 = total loss).
+    #[tactic(auto, unfolding(crate::specs::Accessors::loss_rate_of))]
     pub fn loss_rate(self) -> AnswerF64
         ensures { result ≡ loss_rate_of self }
     {
@@ -27,6 +29,7 @@ impl MmpMetrics {
     }
 
     // Smoothed loss rate (long-term EWMA), once begun.
+    #[tactic(auto, unfolding(crate::specs::Accessors::smoothed_loss_of))]
     pub fn smoothed_loss(self) -> AnswerOptionF64
         ensures { result ≡ smoothed_loss_of self }
     {
@@ -35,6 +38,7 @@ impl MmpMetrics {
     }
 
     // The quality index of smoothed ETX and smoothed RTT, once both are measured.
+    #[tactic(auto, unfolding(crate::specs::Accessors::quality_index_of))]
     pub fn quality_index(self) -> AnswerOptionF64
         ensures { result ≡ quality_index_of self }
     {
@@ -47,6 +51,7 @@ impl MmpMetrics {
     }
 
     // Smoothed ETX (long-term EWMA), once begun.
+    #[tactic(auto, unfolding(crate::specs::Accessors::smoothed_etx_of))]
     pub fn smoothed_etx(self) -> AnswerOptionF64
         ensures { result ≡ smoothed_etx_of self }
     {
@@ -55,6 +60,7 @@ impl MmpMetrics {
     }
 
     // Smoothed goodput in bytes/sec, or 0 if not yet measured.
+    #[tactic(auto, unfolding(crate::specs::Accessors::goodput_bps_of))]
     pub fn goodput_bps(self) -> AnswerF64
         ensures { result ≡ goodput_bps_of self }
     {
@@ -62,12 +68,14 @@ impl MmpMetrics {
     }
 
     // Cumulative ECN CE count from the most recent report.
+    #[tactic(auto, unfolding(crate::specs::Accessors::last_ecn_ce_count_of))]
     pub fn last_ecn_ce_count(self) -> AnswerU32
         ensures { result ≡ last_ecn_ce_count_of self }
     {
         AnswerU32::of(self.refusal(), self.prev_rr_ecn_ce)
     }
 
+    #[tactic(auto, unfolding(crate::specs::Accessors::counters_kept))]
     fn counters_kept(self) -> RrCounters
         ensures { result ≡ counters_kept self }
     {
@@ -83,6 +91,7 @@ impl MmpMetrics {
     }
 
     // Cumulative counters of the last accepted report: none until one is accepted in the current session.
+    #[tactic(auto, unfolding(crate::specs::Accessors::rr_counters_of))]
     pub fn rr_counters(self) -> AnswerCounters
         ensures { result ≡ rr_counters_of self }
     {
@@ -97,6 +106,7 @@ impl MmpMetrics {
     }
 
     // Reports processed, including stale and duplicate ones.
+    #[tactic(auto, unfolding(crate::specs::Accessors::reports_seen_of))]
     pub fn reports_seen(self) -> AnswerU64
         ensures { result ≡ reports_seen_of self }
     {
@@ -104,6 +114,7 @@ impl MmpMetrics {
     }
 
     // Reports that yielded an accepted RTT sample.
+    #[tactic(auto, unfolding(crate::specs::Accessors::rtt_samples_of))]
     pub fn rtt_samples(self) -> AnswerU64
         ensures { result ≡ rtt_samples_of self }
     {
@@ -111,6 +122,7 @@ impl MmpMetrics {
     }
 
     // Echoes whose derived RTT truncated to 0 ms.
+    #[tactic(auto, unfolding(crate::specs::Accessors::rtt_zero_of))]
     pub fn rtt_zero(self) -> AnswerU64
         ensures { result ≡ rtt_zero_of self }
     {
@@ -118,6 +130,7 @@ impl MmpMetrics {
     }
 
     // Echoes whose RTT arithmetic failed.
+    #[tactic(auto, unfolding(crate::specs::Accessors::rtt_arith_fail_of))]
     pub fn rtt_arith_fail(self) -> AnswerU64
         ensures { result ≡ rtt_arith_fail_of self }
     {
@@ -125,6 +138,7 @@ impl MmpMetrics {
     }
 
     // Reports that were stale.
+    #[tactic(auto, unfolding(crate::specs::Accessors::stale_reports_of))]
     pub fn stale_reports(self) -> AnswerU64
         ensures { result ≡ stale_reports_of self }
     {
@@ -132,6 +146,7 @@ impl MmpMetrics {
     }
 
     // Fresh reports whose echo was 0.
+    #[tactic(auto, unfolding(crate::specs::Accessors::no_echo_reports_of))]
     pub fn no_echo_reports(self) -> AnswerU64
         ensures { result ≡ no_echo_reports_of self }
     {
@@ -139,6 +154,7 @@ impl MmpMetrics {
     }
 
     // The most recent accepted per-exchange RTT in ms.
+    #[tactic(auto, unfolding(crate::specs::Accessors::last_rtt_ms_of))]
     pub fn last_rtt_ms(self) -> AnswerOptionU32
         ensures { result ≡ last_rtt_ms_of self }
     {

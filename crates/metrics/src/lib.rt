@@ -173,6 +173,7 @@ impl MmpMetrics {
 
     // --- The state rule ---
 
+    #[tactic(auto, unfolding(crate::specs::State::trends_ok))]
     fn trends_ok(self) -> bool
         ensures { result ≡ trends_ok self }
     {
@@ -184,6 +185,7 @@ impl MmpMetrics {
         rtt & loss & goodput & jitter & etx
     }
 
+    #[tactic(auto, unfolding(crate::specs::State::ratios_ok))]
     fn ratios_ok(self) -> bool
         ensures { result ≡ ratios_ok self }
     {
@@ -194,6 +196,7 @@ impl MmpMetrics {
         forward & reverse & etx & goodput
     }
 
+    #[tactic(auto, unfolding(crate::specs::State::keeps_the_rule))]
     pub fn keeps_rule(self) -> bool
         ensures { result ≡ keeps_the_rule self }
     {
@@ -214,6 +217,7 @@ impl MmpMetrics {
     }
 
     // Question 1 alone, for a call with no other.
+    #[tactic(auto, unfolding(crate::specs::State::refusal_of, refusals::specs::Questions::first_no, refusals::specs::Questions::asked))]
     fn refusal(self) -> u8
         ensures { result ≡ refusal_of self }
     {

@@ -16,6 +16,7 @@ use wire::receiver_report::ReceiverReport;
 
 impl MmpMetrics {
     // A report that is not stale.
+    #[tactic(auto, unfolding(crate::specs::Reports::rtt_log, figures::specs::RoundTrips::round_trip, crate::specs::Reports::newer_state))]
     fn newer_report(self, rr: ReceiverReport, our_timestamp_ms: u32, now_ms: u64) -> ReportProcessed
         requires { Room self }
         ensures { result ≡ newer_report self rr our_timestamp_ms now_ms }
@@ -53,6 +54,7 @@ impl MmpMetrics {
     }
 
     // The refusal of a report.
+    #[tactic(auto, unfolding(crate::specs::Reports::process_refusal, refusals::specs::Questions::first_no, refusals::specs::Questions::asked))]
     fn report_refusal(self, now_ms: u64) -> u8
         ensures { result ≡ process_refusal self now_ms }
     {

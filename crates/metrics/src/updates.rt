@@ -11,6 +11,7 @@ use refusals::option::OptionU64;
 
 impl MmpMetrics {
     // The new session's counters start at 0, so no delta may reach back. RTT stays, as do ETX, trends and goodput.
+    #[tactic(auto, unfolding(crate::specs::Updates::rekeyed))]
     fn rekeyed(self) -> MmpMetrics
         ensures { result ≡ rekeyed self }
     {
@@ -54,6 +55,7 @@ impl MmpMetrics {
     }
 
     // Clears what was derived from report counters, for a rekey cutover.
+    #[tactic(auto, unfolding(crate::specs::Updates::rekey_of))]
     pub fn reset_for_rekey(self) -> MetricsUpdate
         ensures { result ≡ rekey_of self }
     {
@@ -70,6 +72,7 @@ impl MmpMetrics {
     }
 
     // The ratio and ETX of the interval, where there was one.
+    #[tactic(auto, unfolding(crate::specs::Updates::reverse_moved))]
     fn reverse_moved(self, packets: u64, highest: u64) -> MmpMetrics
         ensures { result ≡ reverse_moved self packets highest }
     {
@@ -87,6 +90,7 @@ impl MmpMetrics {
         }
     }
 
+    #[tactic(auto, unfolding(crate::specs::Updates::reversed))]
     fn reversed(self, packets: u64, highest: u64) -> MmpMetrics
         ensures { result ≡ reversed self packets highest }
     {
@@ -98,6 +102,7 @@ impl MmpMetrics {
     }
 
     // The reverse delivery ratio from our own receiver state, over the interval since the last update. ETX follows; its trend waits for a report.
+    #[tactic(auto, unfolding(crate::specs::Updates::reverse_of))]
     pub fn update_reverse_delivery(self, our_recv_packets: u64, peer_highest: u64) -> MetricsUpdate
         ensures { result ≡ reverse_of self our_recv_packets peer_highest }
     {

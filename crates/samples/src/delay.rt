@@ -68,6 +68,7 @@ fn restarts(owd_ref: OwdReference, now_ms: u64) -> bool
 }
 
 // The given base, or the sample as one where it is too old.
+#[tactic(auto, unfolding(crate::specs::Delay::younger))]
 fn younger(base: OwdBase, now_ms: u64, timestamp: u32) -> OwdBase
     ensures { result ≡ younger base now_ms timestamp }
 {
@@ -132,6 +133,7 @@ fn delay_us(age_ms: u64, word: u64) -> i64
 }
 
 // The window that a sample is pushed to: cleared where the reference restarts.
+#[tactic(auto, unfolding(crate::specs::Delay::window_for))]
 fn window_for(window: OwdTrendDetector, owd_ref: OwdReference, now_ms: u64) -> OwdTrendDetector
     ensures { result ≡ window_for window owd_ref now_ms }
 {
@@ -164,6 +166,7 @@ pub fn sample_owd_unchecked(
 }
 
 // The same after its questions, with the reference after it. Every sample answers yes to question 5.
+#[tactic(auto, unfolding(crate::specs::Delay::sample_of, crate::specs::Delay::sample_refusal, algorithms::specs::Owd::stored, refusals::specs::Questions::first_no, refusals::specs::Questions::asked), using(crate::proofs::DelayInRange::delay_in_range))]
 pub fn sample_owd(
     window: OwdTrendDetector,
     owd_ref: OwdReference,

@@ -17,6 +17,7 @@ pub struct Echo {
 }
 
 // A dwell that does not fit on the wire gives no valid round trip: no echo then.
+#[tactic(auto, unfolding(crate::specs::Echo::echo_after))]
 fn echo_after(timestamp: u32, dwell_ms: u64) -> Echo
     ensures { result ≡ echo_after timestamp dwell_ms }
 {

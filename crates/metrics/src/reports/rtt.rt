@@ -9,6 +9,7 @@ use refusals::option::OptionU32;
 
 impl MmpMetrics {
     // A sample of whole milliseconds.
+    #[tactic(auto, unfolding(crate::specs::Reports::sampled))]
     fn sample(self, ms: u32) -> MmpMetrics
         requires { Room self }
         ensures { result ≡ sampled self ms }
@@ -56,6 +57,7 @@ impl MmpMetrics {
         }
     }
 
+    #[tactic(auto, unfolding(crate::specs::Reports::rtt_updated))]
     pub(crate) fn update_rtt(self, trip: RoundTrip) -> MmpMetrics
         requires { Room self }
         ensures { result ≡ rtt_updated self trip }
@@ -81,6 +83,7 @@ impl MmpMetrics {
     }
 
     // The log entry, with SRTT as it stands before the sample.
+    #[tactic(auto, unfolding(crate::specs::Reports::rtt_log))]
     pub(crate) fn rtt_log(self, trip: RoundTrip) -> RrLog
         ensures { result ≡ rtt_log self trip }
     {

@@ -11,6 +11,7 @@ use wire::receiver_report::ReceiverReport;
 
 impl MmpMetrics {
     // Whether a report is stale beside the one kept.
+    #[tactic(auto, unfolding(figures::specs::Stale::stale, crate::specs::State::saved_in))]
     pub(crate) fn finds_stale(self, rr: ReceiverReport) -> bool
         ensures { result ≡ stale (saved_in self) rr }
     {
@@ -29,6 +30,7 @@ impl MmpMetrics {
     }
 
     // A stale report raises its count, and moves nothing.
+    #[tactic(auto, unfolding(crate::specs::Reports::stale_counted))]
     pub(crate) fn stale_report(self) -> ReportProcessed
         requires { Room self }
         ensures { result ≡ stale_report self }

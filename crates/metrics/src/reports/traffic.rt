@@ -14,6 +14,7 @@ use wire::receiver_report::ReceiverReport;
 impl MmpMetrics {
     // --- Loss rate from cumulative counters ---
 
+    #[tactic(auto, unfolding(crate::specs::Reports::delivery_updated))]
     fn update_delivery(self, rr: ReceiverReport) -> MmpMetrics
         ensures { result ≡ delivery_updated self rr }
     {
@@ -40,6 +41,7 @@ impl MmpMetrics {
 
     // --- Goodput from cumulative bytes and time ---
 
+    #[tactic(auto, unfolding(crate::specs::Reports::goodput_updated))]
     fn update_goodput(self, rr: ReceiverReport, now_ms: u64) -> MmpMetrics
         ensures { result ≡ goodput_updated self rr now_ms }
     {
@@ -66,6 +68,7 @@ impl MmpMetrics {
 
     // --- Jitter trend ---
 
+    #[tactic(auto, unfolding(crate::specs::Reports::jitter_trend_updated))]
     fn update_jitter_trend(self, rr: ReceiverReport) -> MmpMetrics
         ensures { result ≡ jitter_trend_updated self rr }
     {
@@ -79,6 +82,7 @@ impl MmpMetrics {
 
     // --- Save for next delta ---
 
+    #[tactic(auto, unfolding(crate::specs::Reports::counters_saved))]
     fn save_counters(self, rr: ReceiverReport, now_ms: u64) -> MmpMetrics
         ensures { result ≡ counters_saved self rr now_ms }
     {
@@ -122,6 +126,7 @@ impl MmpMetrics {
     }
 
     // What follows the round trip.
+    #[tactic(auto, unfolding(crate::specs::Reports::traffic_updated))]
     pub(crate) fn update_traffic(self, rr: ReceiverReport, now_ms: u64) -> MmpMetrics
         ensures { result ≡ traffic_updated self rr now_ms }
     {

@@ -1,19 +1,12 @@
--- `samples::transit::transit` meets its contract.
-use borrow.Author.Rules.{rules}
-use mathlib.Core.Path.{◌≡◌, sym, ap, ◌∙◌}
-use Prim.Native.Nat.{ℕ, ◌+◌, ◌-◌, ◌*◌, ◌/◌, ◌%◌, ◌^◌, ◌<◌}
-use native.Mathlib.Omega.{arith}
+-- Whole spans dropped from the receive step, and 1000 added, make no difference.
+use Rattle.std.proofs.Common.{◌≡◌, ℕ, ◌+◌, ◌-◌, ◌*◌, ◌/◌, ◌%◌, ◌^◌, ◌<◌, pos, ◌-ℤ◌, ◌*ℤ◌, sym, ap, ◌∙◌, arith, rules, w32, SFits, to_z}
 use native.Mathlib.Nat.{add-mul-mod_self_left}
-use lib.IntN.{pos, ◌-ℤ◌, ◌*ℤ◌}
-use mir.Syntax.{w32}
-use mir.Val.{to_z}
-use mir.Facts.{to_z-of_z}
+use mir.ValLaws.{to_z-of_z}
 use Rattle.samples.specs.Words.{modulo, reduced}
 use Rattle.samples.specs.Transit.{transit}
 use Rattle.samples.proofs.Reduction.{modulo_difference}
 use Rattle.samples.proofs.WrappedTimestamp.{steps}
-use Rattle.samples.proofs.transit.transit.Statement.{statement}
-use Rattle.samples.proofs.transit.transit.Tie as tie
+use Rattle.samples.proofs.transit.transit.Goals as goal
 
 -- whole spans dropped from the receive step, and 1000 added
 word : (step timestamp last : ℕ) → timestamp < 2 ^ 32
@@ -27,11 +20,9 @@ word step timestamp last h =
     ∙ sym (modulo_difference (1000 * (step + last)) (1000 * timestamp) 1000 (omega arith))
     ∙ ap modulo (sym (steps step timestamp last))
 
-returns : tie.Need-returns
+pub returns : goal.returns
 unfolding transit reduced
 returns c =
-    let a = c.before.args in
-    to_z-of_z {w = w32} {z = c.signed32.result} (record { sfits = c.signed32.type-inv }) ∙ c.signed32.ensures ∙ ap (to_z w32) (word a.step-ms a.timestamp a.last-timestamp (omega arith))
-
-pub transit-spec : {M : Type 1} → statement M
-transit-spec = tie.close (tie.spec (λ c. search rules) (λ c. search rules) (λ c. search rules) (λ c. search rules) (λ c. search rules) (λ c κs. tt) returns)
+    let a = c.args in
+    let fits : SFits w32 c.signed32.result = search rules in
+    to_z-of_z w32 c.signed32.result fits ∙ c.signed32.ensures ∙ ap (to_z w32) (word a.step_ms a.timestamp a.last_timestamp (omega arith))
