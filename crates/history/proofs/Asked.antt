@@ -9,7 +9,7 @@ use lib.Dec.{eqb}
 use borrow.Author.Tests.{eqb-false, eq-eqb}
 use Rattle.refusals.proofs.Clauses.{left, right}
 use Rattle.refusals.specs.Questions.{Question, question, first_no}
-use Rattle.history.specs.Asked.{Asked, first_of, among, Put, put, Judged}
+use Rattle.history.specs.Asked.{Asked, among, Put, put, Judged}
 
 -- ---- not by 1
 -- a question with the number 1 is answered yes

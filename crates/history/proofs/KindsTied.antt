@@ -13,7 +13,7 @@ use Rattle.metrics.specs.declared.MmpMetrics.{MmpMetrics}
 use Rattle.metrics.proofs.ReportsByCase.{process_refusal_lem, by_case}
 use Rattle.history.specs.MetricsCalls.{MetricsNew, new_metrics, MetricsCall, metrics_step}
 use Rattle.history.specs.ExactRoundTrip.{processed}
-use Rattle.history.specs.Kinds.{Kind, of-stale, of-no-echo, of-sample, of_zero, of-failure, fresh_kind, kind_after, kinds, place, among, count}
+use Rattle.history.specs.Kinds.{Kind, of_stale, of_no_echo, of_sample, of_zero, of_failure, fresh_kind, kind_after, kinds, place, among, count}
 use Rattle.history.specs.Accounted.{tally, Raised, Uncounted}
 use Rattle.history.proofs.RoundTripsAgree.{by_trip}
 use Rattle.history.proofs.RoundTripTied as trips
@@ -38,16 +38,16 @@ pub record Counted (l : List MetricsCall) (m : MmpMetrics) : Type 0 where
 
 new_kinds : (n : MetricsNew) (k : Kind) → tally k (new_metrics n) ≡ count k []
 unfolding kinds among
-new_kinds MetricsNew.new of-stale = refl
-new_kinds MetricsNew.new of-no-echo = refl
-new_kinds MetricsNew.new of-sample = refl
+new_kinds MetricsNew.new of_stale = refl
+new_kinds MetricsNew.new of_no_echo = refl
+new_kinds MetricsNew.new of_sample = refl
 new_kinds MetricsNew.new of_zero = refl
-new_kinds MetricsNew.new of-failure = refl
-new_kinds MetricsNew.default of-stale = refl
-new_kinds MetricsNew.default of-no-echo = refl
-new_kinds MetricsNew.default of-sample = refl
+new_kinds MetricsNew.new of_failure = refl
+new_kinds MetricsNew.default of_stale = refl
+new_kinds MetricsNew.default of_no_echo = refl
+new_kinds MetricsNew.default of_sample = refl
 new_kinds MetricsNew.default of_zero = refl
-new_kinds MetricsNew.default of-failure = refl
+new_kinds MetricsNew.default of_failure = refl
 
 new_seen : (n : MetricsNew) → (new_metrics n).reports_seen ≡ processed []
 unfolding processed

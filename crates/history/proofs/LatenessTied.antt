@@ -1,5 +1,5 @@
 -- A receiver's greatest lateness is that of the frames which the calls on it brought since the last report or rekey, and the expected counter follows the highest.
-use mathlib.Core.Path.{◌≡◌, refl, sym, ap, ◌∙◌}
+use mathlib.Core.Path.{◌≡◌, refl, ap, ◌∙◌}
 use mathlib.Core.Bool.{Bool, true, false, cond, true≢false}
 use mathlib.Core.List.{List, [], ◌∷◌, ◌++◌}
 use Prim.Native.Nat.{ℕ, ◌+◌, ◌-◌, ◌<◌, ◌^◌, min, max}
@@ -15,12 +15,11 @@ use Rattle.algorithms.specs.OwdTrend.{trend_of}
 use Rattle.gaps.specs.Gaps as gaps
 use Rattle.gaps.specs.Stats.{stats_of}
 use Rattle.gaps.proofs.DueFollows.{due_follows}
-use Rattle.gaps.specs.declared.Arrival.{Arrival}
 use Rattle.gaps.specs.declared.Arrival.TheVariants.{Gap, Behind, InSequence}
 use Rattle.gaps.specs.declared.GapTracker.{GapTracker}
 use Rattle.pace.specs.Updates.{cold_start_refusal, from_srtt, with_bounds}
 use Rattle.pace.specs.declared.Paced.{Paced}
-use Rattle.receiver.specs.State.{keeps_the_rule, started_at, fresh, new_of, rekeyed, rekey_of}
+use Rattle.receiver.specs.State.{keeps_the_rule, started_at, new_of, rekeyed, rekey_of}
 use Rattle.receiver.specs.Frames.{late_by, counted, timing_sampled, echo_if_sampled, pushes, with_sample, frame_of}
 use Rattle.receiver.specs.Reports.{some_built, none_built, built, report_refusal, built_of}
 use Rattle.receiver.specs.Pacing.{with_pace, from_srtt_of, with_bounds_of}

@@ -4,7 +4,7 @@ use Rattle.metrics.specs.declared.MmpMetrics.{MmpMetrics}
 use Rattle.metrics.proofs.QuestionsAnswered.{sum_seen}
 use Rattle.history.specs.Run.{run_of}
 use Rattle.history.specs.MetricsCalls.{MetricsNew, new_metrics, metrics_step}
-use Rattle.history.specs.Kinds.{of-stale, of-no-echo, of-sample, of_zero, of-failure}
+use Rattle.history.specs.Kinds.{of_stale, of_no_echo, of_sample, of_zero, of_failure}
 use Rattle.history.specs.Meant.{History, Reached, begun, next}
 use Rattle.history.specs.NoCreep.{KindsHold}
 use Rattle.history.proofs.RoundTripTied as trips
@@ -27,11 +27,11 @@ pub kinds_hold : {l : History} {m : MmpMetrics} → Reached l m → KindsHold l 
 kinds_hold {l} {m} r =
     let c = reached_counted r in
     record {
-      stale = c.kinds of-stale;
-      no_echo = c.kinds of-no-echo;
-      samples = c.kinds of-sample;
+      stale = c.kinds of_stale;
+      no_echo = c.kinds of_no_echo;
+      samples = c.kinds of_sample;
       zeros = c.kinds of_zero;
-      failures = c.kinds of-failure;
+      failures = c.kinds of_failure;
       sum = sum_seen m (reached_lawful r).rule;
       seen = c.seen;
     }

@@ -6,7 +6,7 @@ use mathlib.Core.List.{List, [], ◌∷◌, ◌++◌}
 use Prim.Native.Nat.{ℕ, zero, suc}
 use lib.Dec.{eqb}
 use lib.IntN.{ℤ}
-use lib.ListN.{length, take, drop}
+use lib.ListN.{take, drop}
 use Rattle.refusals.proofs.Clauses.{left, right}
 use Rattle.refusals.specs.Answers.{answer_u32, answer_u64, answer_option_u64}
 use Rattle.refusals.specs.Questions.{question, first_no}

@@ -14,23 +14,23 @@ use Rattle.metrics.specs.Updates.{rekeyed, rekey_of, reversed, reverse_of}
 use Rattle.metrics.specs.declared.MmpMetrics.{MmpMetrics}
 use Rattle.metrics.proofs.ReportsByCase.{process_refusal_lem, by_case, by_reverse, traffic_leaves}
 use Rattle.history.specs.MetricsCalls.{MetricsCall, metrics_step}
-use Rattle.history.specs.Kinds.{Kind, of-stale, of-no-echo, of-sample, of_zero, of-failure, place}
+use Rattle.history.specs.Kinds.{Kind, of_stale, of_no_echo, of_sample, of_zero, of_failure, place}
 use Rattle.history.specs.Accounted.{tally, Logged, as_stale, as_no_echo, as_sample, as_zero, as_failure, Raised, Accounted, Uncounted, AccountedHolds}
 
 -- the kind of a fresh report, by its round trip
 abbrev pub kind_in : RoundTrip → Kind
-kind_in NoEcho = of-no-echo
-kind_in (Sample ms) = of-sample
+kind_in NoEcho = of_no_echo
+kind_in (Sample ms) = of_sample
 kind_in Zero = of_zero
-kind_in ArithFail = of-failure
+kind_in ArithFail = of_failure
 
 -- records with the same tallies have the same counts
 same_kinds : (m n : MmpMetrics) → tallies_in n ≡ tallies_in m → (k : Kind) → tally k n ≡ tally k m
-same_kinds m n e of-stale = ap (λ (t : Tallies). t.stale) e
-same_kinds m n e of-no-echo = ap (λ (t : Tallies). t.no_echo) e
-same_kinds m n e of-sample = ap (λ (t : Tallies). t.samples) e
+same_kinds m n e of_stale = ap (λ (t : Tallies). t.stale) e
+same_kinds m n e of_no_echo = ap (λ (t : Tallies). t.no_echo) e
+same_kinds m n e of_sample = ap (λ (t : Tallies). t.samples) e
 same_kinds m n e of_zero = ap (λ (t : Tallies). t.zeros) e
-same_kinds m n e of-failure = ap (λ (t : Tallies). t.failures) e
+same_kinds m n e of_failure = ap (λ (t : Tallies). t.failures) e
 
 same_seen : (m n : MmpMetrics) → tallies_in n ≡ tallies_in m → n.reports_seen ≡ m.reports_seen
 same_seen m n e = ap (λ (t : Tallies). t.seen) e
@@ -39,41 +39,41 @@ uncounted : (m n : MmpMetrics) → tallies_in n ≡ tallies_in m → Uncounted m
 uncounted m n e = record { kinds = same_kinds m n e; seen = same_seen m n e }
 
 -- ---- a stale report
-stale_kinds : (m : MmpMetrics) (k : Kind) → tally k (stale_counted (counted m)) ≡ tally k m + cond (eqb (place k) (place of-stale)) 1 0
+stale_kinds : (m : MmpMetrics) (k : Kind) → tally k (stale_counted (counted m)) ≡ tally k m + cond (eqb (place k) (place of_stale)) 1 0
 unfolding stale_counted counted
-stale_kinds m of-stale = omega arith
-stale_kinds m of-no-echo = omega arith
-stale_kinds m of-sample = omega arith
+stale_kinds m of_stale = omega arith
+stale_kinds m of_no_echo = omega arith
+stale_kinds m of_sample = omega arith
 stale_kinds m of_zero = omega arith
-stale_kinds m of-failure = omega arith
+stale_kinds m of_failure = omega arith
 
-pub stale_raised : (m : MmpMetrics) → Raised of-stale m (stale_counted (counted m))
+pub stale_raised : (m : MmpMetrics) → Raised of_stale m (stale_counted (counted m))
 unfolding stale_counted counted
 stale_raised m = record { kinds = stale_kinds m; seen = refl }
 
 -- ---- a fresh one: by its round trip
 trip_kinds : (m : MmpMetrics) (t : RoundTrip) (k : Kind) → tally k (rtt_updated (counted m) t) ≡ tally k m + cond (eqb (place k) (place (kind_in t))) 1 0
 unfolding rtt_updated sampled counted
-trip_kinds m NoEcho of-stale = omega arith
-trip_kinds m NoEcho of-no-echo = omega arith
-trip_kinds m NoEcho of-sample = omega arith
+trip_kinds m NoEcho of_stale = omega arith
+trip_kinds m NoEcho of_no_echo = omega arith
+trip_kinds m NoEcho of_sample = omega arith
 trip_kinds m NoEcho of_zero = omega arith
-trip_kinds m NoEcho of-failure = omega arith
-trip_kinds m (Sample ms) of-stale = omega arith
-trip_kinds m (Sample ms) of-no-echo = omega arith
-trip_kinds m (Sample ms) of-sample = omega arith
+trip_kinds m NoEcho of_failure = omega arith
+trip_kinds m (Sample ms) of_stale = omega arith
+trip_kinds m (Sample ms) of_no_echo = omega arith
+trip_kinds m (Sample ms) of_sample = omega arith
 trip_kinds m (Sample ms) of_zero = omega arith
-trip_kinds m (Sample ms) of-failure = omega arith
-trip_kinds m Zero of-stale = omega arith
-trip_kinds m Zero of-no-echo = omega arith
-trip_kinds m Zero of-sample = omega arith
+trip_kinds m (Sample ms) of_failure = omega arith
+trip_kinds m Zero of_stale = omega arith
+trip_kinds m Zero of_no_echo = omega arith
+trip_kinds m Zero of_sample = omega arith
 trip_kinds m Zero of_zero = omega arith
-trip_kinds m Zero of-failure = omega arith
-trip_kinds m ArithFail of-stale = omega arith
-trip_kinds m ArithFail of-no-echo = omega arith
-trip_kinds m ArithFail of-sample = omega arith
+trip_kinds m Zero of_failure = omega arith
+trip_kinds m ArithFail of_stale = omega arith
+trip_kinds m ArithFail of_no_echo = omega arith
+trip_kinds m ArithFail of_sample = omega arith
 trip_kinds m ArithFail of_zero = omega arith
-trip_kinds m ArithFail of-failure = omega arith
+trip_kinds m ArithFail of_failure = omega arith
 
 trip_seen : (m : MmpMetrics) (t : RoundTrip) → (rtt_updated (counted m) t).reports_seen ≡ m.reports_seen + 1
 unfolding rtt_updated sampled counted
@@ -108,7 +108,7 @@ process_accounted : (m : MmpMetrics) (rr : ReceiverReport) (ours now : ℕ) → 
 process_accounted m rr ours now e =
     by_case m rr ours now (λ p. Accounted m p.state p.outcome)
     (λ ne. absurd (ne (sym (process_refusal_lem m rr ours now) ∙ e)))
-    (λ z s. record { kind = of-stale; logged = as_stale; raised = stale_raised m })
+    (λ z s. record { kind = of_stale; logged = as_stale; raised = stale_raised m })
     (λ z s. record { kind = kind_in (round_trip rr ours); logged = trip_logged (counted m) (round_trip rr ours); raised = fresh_raised m rr ours now })
 
 -- ---- a rekey and an update of the reverse side

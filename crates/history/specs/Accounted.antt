@@ -7,23 +7,23 @@ use Rattle.metrics.specs.declared.RrLog.{RrLog}
 use Rattle.metrics.specs.declared.RrLog.TheVariants as log
 use Rattle.history.specs.Answers.{Answer}
 use Rattle.history.specs.MetricsCalls.{MetricsCall, metrics_step}
-use Rattle.history.specs.Kinds.{Kind, of-stale, of-no-echo, of-sample, of_zero, of-failure, place}
+use Rattle.history.specs.Kinds.{Kind, of_stale, of_no_echo, of_sample, of_zero, of_failure, place}
 
 -- the count of a kind
 abbrev pub tally : Kind → MmpMetrics → ℕ
-tally of-stale m = m.stale_reports
-tally of-no-echo m = m.no_echo_reports
-tally of-sample m = m.rtt_samples
+tally of_stale m = m.stale_reports
+tally of_no_echo m = m.no_echo_reports
+tally of_sample m = m.rtt_samples
 tally of_zero m = m.rtt_zero
-tally of-failure m = m.rtt_arith_fail
+tally of_failure m = m.rtt_arith_fail
 
 -- the entries that a report of a kind may be logged with: a zero and a failure share one
 pub data Logged : Kind → RrLog → Type 0 where
-  as_stale : {highest packets bytes : ℕ} → Logged of-stale (log.Stale highest packets bytes)
-  as_no_echo : Logged of-no-echo log.None
-  as_sample : {ms : ℕ} {srtt : Float} → Logged of-sample (log.RttSample ms srtt)
+  as_stale : {highest packets bytes : ℕ} → Logged of_stale (log.Stale highest packets bytes)
+  as_no_echo : Logged of_no_echo log.None
+  as_sample : {ms : ℕ} {srtt : Float} → Logged of_sample (log.RttSample ms srtt)
   as_zero : Logged of_zero log.InvalidRtt
-  as_failure : Logged of-failure log.InvalidRtt
+  as_failure : Logged of_failure log.InvalidRtt
 
 -- one kind rises by 1, the four others stay, and reports seen rise by 1
 pub record Raised (j : Kind) (m n : MmpMetrics) : Type 0 where

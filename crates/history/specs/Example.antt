@@ -13,7 +13,7 @@ use Rattle.history.specs.ReceiverCalls.{ReceiverNew, ReceiverCall}
 use Rattle.history.specs.MetricsCalls.{MetricsNew, MetricsCall}
 use Rattle.history.specs.ExactJitter.{differences}
 use Rattle.history.specs.ExactRoundTrip.{round_trips}
-use Rattle.history.specs.Kinds.{of-stale, of-sample, kinds}
+use Rattle.history.specs.Kinds.{of_stale, of_sample, kinds}
 use Rattle.history.specs.Ends.{EndNew, on_receiver, on_metrics, Side, Two, Call, ends}
 use Rattle.history.specs.NoCreep.{written, reached, accepted, recorded, jitter_average, stale_entry}
 
@@ -129,7 +129,7 @@ pub record Worked : Type 0 where
   pub averages : average_of (round_trips accepted_reports) ≡ average 3 5568000 2336000
   pub smoothed : recorded metrics.srtt ≡ estimate 10875 4563
   -- the latest first; a rekey is no report
-  pub kinds : kinds accepted_reports ≡ of-sample ∷ of-sample ∷ of-stale ∷ of-sample ∷ []
+  pub kinds : kinds accepted_reports ≡ of_sample ∷ of_sample ∷ of_stale ∷ of_sample ∷ []
   pub counted : counts metrics ≡ 1 ∷ 0 ∷ 3 ∷ 0 ∷ 0 ∷ 4 ∷ []
   -- "seen 2, no echo 1, stale 1"
   pub silent_counted : counts (reached begin silent).west.metrics ≡ 1 ∷ 1 ∷ 0 ∷ 0 ∷ 0 ∷ 2 ∷ []

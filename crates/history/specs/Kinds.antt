@@ -6,19 +6,19 @@ use Rattle.history.specs.MetricsCalls.{MetricsCall}
 use Rattle.history.specs.ExactRoundTrip.{stale, kept_after}
 
 pub data Kind : Type 0 where
-  of-stale of-no-echo of-sample of_zero of-failure : Kind
+  of_stale of_no_echo of_sample of_zero of_failure : Kind
 
 -- a fresh report: "whose echo was 0"; with an echo, our time past echo and dwell, at them, or before them ("10 ms / zero / arithmetic failure")
 unfoldable pub fresh_kind : ReceiverReport → ℕ → Kind
 fresh_kind rr ours =
     cond (ltb 0 rr.timestamp_echo)
-    (cond (ltb (rr.timestamp_echo + rr.dwell_time) ours) of-sample
-    (cond (eqb (rr.timestamp_echo + rr.dwell_time) ours) of_zero of-failure))
-    of-no-echo
+    (cond (ltb (rr.timestamp_echo + rr.dwell_time) ours) of_sample
+    (cond (eqb (rr.timestamp_echo + rr.dwell_time) ours) of_zero of_failure))
+    of_no_echo
 
 -- stale beside the report kept, whatever its echo; else by its echo
 abbrev pub kind_after : List MetricsCall → ReceiverReport → ℕ → Kind
-kind_after l rr ours = cond (stale (kept_after l) rr) of-stale (fresh_kind rr ours)
+kind_after l rr ours = cond (stale (kept_after l) rr) of_stale (fresh_kind rr ours)
 
 -- one for each report processed; no other call gives any
 unfoldable pub kinds : List MetricsCall → List Kind
@@ -32,11 +32,11 @@ kinds (MetricsCall.ask q ∷ l) = kinds l
 
 -- ---- how many of a kind
 abbrev pub place : Kind → ℕ
-place of-stale = 0
-place of-no-echo = 1
-place of-sample = 2
+place of_stale = 0
+place of_no_echo = 1
+place of_sample = 2
 place of_zero = 3
-place of-failure = 4
+place of_failure = 4
 
 unfoldable pub among : Kind → List Kind → ℕ
 among k [] = 0

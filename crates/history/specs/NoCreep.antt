@@ -23,7 +23,7 @@ use Rattle.history.specs.MetricsCalls.{MetricsCall, new_metrics, metrics_step}
 use Rattle.history.specs.Asked.{Judged, put_to}
 use Rattle.history.specs.ExactJitter.{differences}
 use Rattle.history.specs.ExactRoundTrip as exact
-use Rattle.history.specs.Kinds.{of-stale, of-no-echo, of-sample, of_zero, of-failure, count}
+use Rattle.history.specs.Kinds.{of_stale, of_no_echo, of_sample, of_zero, of_failure, count}
 use Rattle.history.specs.Meant.{History, Reached}
 use Rattle.history.specs.Recount.{recounted}
 use Rattle.history.specs.Ends.{End, EndNew, new_end, EndCall, on_sender, on_receiver, on_metrics, Log, no_calls, Side, Two, at, put, Call, ends}
@@ -97,11 +97,11 @@ pub record FiguresHold (l : History) (m : MmpMetrics) : Type 0 where
 
 -- ---- document 02, W-205: "Each of the five kinds .. equals the number of such calls, refused ones left out, in the history from new"
 pub record KindsHold (l : History) (m : MmpMetrics) : Type 0 where
-  pub stale : m.stale_reports ≡ count of-stale l
-  pub no_echo : m.no_echo_reports ≡ count of-no-echo l
-  pub samples : m.rtt_samples ≡ count of-sample l
+  pub stale : m.stale_reports ≡ count of_stale l
+  pub no_echo : m.no_echo_reports ≡ count of_no_echo l
+  pub samples : m.rtt_samples ≡ count of_sample l
   pub zeros : m.rtt_zero ≡ count of_zero l
-  pub failures : m.rtt_arith_fail ≡ count of-failure l
+  pub failures : m.rtt_arith_fail ≡ count of_failure l
   -- "and their sum equals reports seen", which are the reports processed, stale or not
   pub sum : m.stale_reports + m.no_echo_reports + m.rtt_samples + m.rtt_zero + m.rtt_arith_fail ≡ m.reports_seen
   pub seen : m.reports_seen ≡ exact.processed l

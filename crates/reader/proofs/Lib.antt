@@ -8,3 +8,6 @@ mod PassedOn
 mod NewThenPassedOn
 mod MadeThenLent
 mod Questions
+mod ContractsSay
+mod EveryContract
+mod EachMeets

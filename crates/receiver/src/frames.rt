@@ -17,6 +17,7 @@ use refusals::ranges::{clock_ok, frame_size_ok};
 
 impl ReceiverState {
     // The refusal of a frame. Question 5 is left out: every sample is in range.
+    #[tactic(auto, unfolding(refusals::specs::Questions::first_no, refusals::specs::Questions::asked))]
     fn frame_refusal(
         self,
         times: usize,

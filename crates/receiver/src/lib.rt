@@ -140,6 +140,7 @@ impl ReceiverState {
     }
 
     // With a cold-start interval of the caller's.
+    #[tactic(auto, unfolding(crate::specs::State::new_of))]
     pub fn new_with_cold_start(owd_window_size: usize, cold_start_ms: u64) -> ReceiverNew
         ensures { result ≡ new_of owd_window_size cold_start_ms }
     {
@@ -153,6 +154,7 @@ impl ReceiverState {
         }
     }
 
+    #[tactic(auto, unfolding(crate::specs::State::keeps_the_rule))]
     pub fn keeps_rule(self) -> bool
         ensures { result ≡ keeps_the_rule self }
     {
@@ -172,6 +174,7 @@ impl ReceiverState {
         recv & report & interval & grace & jitter & owd_trend & reference & gaps & reorders
     }
 
+    #[tactic(auto, unfolding(crate::specs::State::refusal_of, refusals::specs::Questions::first_no, refusals::specs::Questions::asked))]
     fn refusal(self) -> u8
         ensures { result ≡ refusal_of self }
     {
@@ -181,6 +184,7 @@ impl ReceiverState {
     }
 
     // The state alone after a rekey, for a caller that has asked its questions. Lifetime counts and report timing stay.
+    #[tactic(auto, unfolding(crate::specs::State::rekeyed))]
     fn rekeyed(self, deadline_ms: u64) -> ReceiverState
         ensures { result ≡ rekeyed self deadline_ms }
     {
@@ -215,6 +219,7 @@ impl ReceiverState {
     }
 
     // Reset counter-dependent state for a rekey: the new session starts with counter 0 and reset timestamps.
+    #[tactic(auto, unfolding(crate::specs::State::rekey_of, crate::specs::State::clock_refusal, refusals::specs::Questions::first_no, refusals::specs::Questions::asked))]
     pub fn reset_for_rekey(self, now_ms: u64) -> ReceiverUpdate
         ensures { result ≡ rekey_of self now_ms }
     {

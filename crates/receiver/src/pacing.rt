@@ -38,6 +38,7 @@ impl ReceiverState {
     }
 
     // The interval from SRTT, between the link layer's bounds. The update is counted, and the first few have a lower floor.
+    #[tactic(auto, unfolding(crate::specs::Pacing::from_srtt_of))]
     pub fn update_report_interval_from_srtt(self, srtt_us: i64) -> ReceiverUpdate
         ensures { result ≡ from_srtt_of self srtt_us }
     {
@@ -52,6 +53,7 @@ impl ReceiverState {
     }
 
     // The interval from SRTT, between bounds of the caller's.
+    #[tactic(auto, unfolding(crate::specs::Pacing::with_bounds_of))]
     pub fn update_report_interval_with_bounds(
         self,
         srtt_us: i64,
@@ -73,6 +75,7 @@ impl ReceiverState {
     }
 
     // Frames have come, and the interval has passed.
+    #[tactic(auto, unfolding(crate::specs::Pacing::is_due))]
     fn due(self, now_ms: u64) -> bool
         ensures { result ≡ is_due self now_ms }
     {
@@ -82,6 +85,7 @@ impl ReceiverState {
     }
 
     // Whether it is time to send a report.
+    #[tactic(auto, unfolding(crate::specs::Pacing::should_send_of, crate::specs::State::clock_refusal, refusals::specs::Questions::first_no, refusals::specs::Questions::asked))]
     pub fn should_send_report(self, now_ms: u64) -> AnswerBool
         ensures { result ≡ should_send_of self now_ms }
     {

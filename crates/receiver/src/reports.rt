@@ -35,6 +35,7 @@ fn none_built(refusal: u8, state: ReceiverState) -> ReceiverReportBuilt
 
 impl ReceiverState {
     // The interval as a report says it, with its bursts and the delay trend.
+    #[tactic(auto, unfolding(crate::specs::Reports::report_of))]
     fn report(self, stats: IntervalStats, owd_trend: i32, now_ms: u64) -> ReceiverReport
         ensures { result ≡ report_of self stats owd_trend now_ms }
     {
@@ -94,6 +95,7 @@ impl ReceiverState {
     }
 
     // The report alone, for a caller that has asked its questions. It ends the interval.
+    #[tactic(auto, unfolding(crate::specs::Reports::built))]
     fn build(self, owd_trend: i32, now_ms: u64) -> ReceiverReportBuilt
         ensures { result ≡ built self owd_trend now_ms }
     {

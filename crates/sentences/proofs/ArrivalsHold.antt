@@ -14,7 +14,7 @@ use Rattle.gaps.proofs.DueFollows.{due_follows}
 use Rattle.gaps.specs.declared.Arrival.{Arrival}
 use Rattle.gaps.specs.declared.Arrival.TheVariants.{First, InSequence, Gap, Behind}
 use Rattle.gaps.specs.declared.GapTracker.{GapTracker}
-use Rattle.sentences.specs.Arrivals.{Past, Below, Stands, Lost, due_after}
+use Rattle.sentences.specs.Arrivals.{Stands, Lost, due_after}
 use Rattle.sentences.specs.Bursts.{greatest}
 use Rattle.sentences.proofs.BurstsHold.{after}
 

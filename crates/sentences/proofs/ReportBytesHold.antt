@@ -6,7 +6,7 @@ use lib.IntN.{ℤ, pos, negsuc}
 use lib.ListN.{drop}
 use mir.Syntax.{w32}
 use mir.Val.{of_z}
-use native.Mathlib.Nat.{div-one, div-div-eq-div-mul, pow-zero, pow-suc}
+use native.Mathlib.Nat.{div-one, div-div-eq-div-mul, pow-suc}
 use native.Mathlib.Numerals.{add-one}
 use native.Mathlib.Omega.{arith}
 use Rattle.codec.specs.LittleEndian.{le_bytes}
@@ -16,7 +16,7 @@ use Rattle.wire.specs.declared.sender_report.SenderReport.{SenderReport}
 use Rattle.wire.specs.declared.receiver_report.ReceiverReport.{ReceiverReport}
 use Rattle.wire.proofs.SenderRoundTrip as sender-round-trip
 use Rattle.wire.proofs.ReceiverRoundTrip as receiver-round-trip
-use Rattle.sentences.specs.ReportBytes.{Field, field, bytes_from, laid_out, signed32, sender_fields, receiver_fields}
+use Rattle.sentences.specs.ReportBytes.{Field, bytes_from, laid_out, signed32, sender_fields, receiver_fields}
 
 -- the bytes from byte k on are those of what k bytes leave
 from_byte : (k n x : ℕ) → bytes_from k n x ≡ le_bytes n (x / 256 ^ k)

@@ -10,13 +10,13 @@ use sender::SenderState;
 use wire::sender_report::SenderReport;
 
 // Whether a record keeps the state rule.
-#[unsafe(no_mangle)]
-pub extern "C" fn siwolkert_sender_check(state: &SenderState) -> u8
+pub fn siwolkert_sender_check(state: &SenderState) -> u8
     ensures { result ≡ refusal_of state.now }
 {
     rule_status(*state)
 }
 
+#[tactic(auto, unfolding(sender::specs::State::refusal_of, refusals::specs::Questions::first_no, refusals::specs::Questions::asked))]
 fn rule_status(state: SenderState) -> u8
     ensures { result ≡ refusal_of state }
 {
@@ -26,8 +26,8 @@ fn rule_status(state: SenderState) -> u8
 }
 
 // A frame is sent.
-#[unsafe(no_mangle)]
-pub extern "C" fn siwolkert_sender_record_sent(
+#[tactic(auto, unfolding(sender::specs::Sent::sent_of))]
+pub fn siwolkert_sender_record_sent(
     state: &mut SenderState,
     counter: u64,
     timestamp: u32,
@@ -44,8 +44,8 @@ pub extern "C" fn siwolkert_sender_record_sent(
 }
 
 // A report is built where a frame has been sent since the last one; else `some` is false and the report zeros.
-#[unsafe(no_mangle)]
-pub extern "C" fn siwolkert_sender_build_report(
+#[tactic(auto, using(crate::proofs::RefusedStays::report_stays), unfolding(crate::specs::Lent::some_into, crate::specs::Lent::report_into))]
+pub fn siwolkert_sender_build_report(
     state: &mut SenderState,
     now_ms: u64,
     some: &mut bool,

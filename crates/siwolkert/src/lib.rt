@@ -1,4 +1,4 @@
-// What the Rust daemon and the differential tests call. The status is the return value: 0, or document 01's number.
+// What the Rust daemon and the differential tests call, through the exports of `siwolkert_c`, which have the same names. The status is the return value: 0, or document 01's number.
 
 #![tactic(auto)]
 
@@ -12,12 +12,7 @@ use algorithms::etx::compute_etx;
 use algorithms::jitter::JitterEstimator;
 
 // Whether a payload is long enough for a sender's report. Where it is not, 7, with the needed and the given length.
-#[unsafe(no_mangle)]
-pub extern "C" fn siwolkert_check_sender_payload(
-    payload: &[u8],
-    needed: &mut u64,
-    given: &mut u64,
-) -> u8
+pub fn siwolkert_check_sender_payload(payload: &[u8], needed: &mut u64, given: &mut u64) -> u8
     ensures { (result ≡ check_status 47 payload.now)
         × (needed.new ≡ check_needed 47 payload.now needed.old)
         × (given.new ≡ check_given 47 payload.now given.old) }
@@ -26,12 +21,7 @@ pub extern "C" fn siwolkert_check_sender_payload(
 }
 
 // The same for a receiver's report.
-#[unsafe(no_mangle)]
-pub extern "C" fn siwolkert_check_receiver_payload(
-    payload: &[u8],
-    needed: &mut u64,
-    given: &mut u64,
-) -> u8
+pub fn siwolkert_check_receiver_payload(payload: &[u8], needed: &mut u64, given: &mut u64) -> u8
     ensures { (result ≡ check_status 67 payload.now)
         × (needed.new ≡ check_needed 67 payload.now needed.old)
         × (given.new ≡ check_given 67 payload.now given.old) }
@@ -39,6 +29,7 @@ pub extern "C" fn siwolkert_check_receiver_payload(
     payload_check(payload, 67, needed, given)
 }
 
+#[tactic(auto, unfolding(crate::specs::PayloadCheck::check_status, crate::specs::PayloadCheck::check_needed, crate::specs::PayloadCheck::check_given, codec::specs::Reading::length_answer, codec::specs::Reading::needed_for, codec::specs::Reading::values_of, codec::specs::Reading::by_length))]
 fn payload_check(payload: &[u8], n: usize, needed: &mut u64, given: &mut u64) -> u8
     ensures { (result ≡ check_status n payload.now)
         × (needed.new ≡ check_needed n payload.now needed.old)
@@ -53,12 +44,8 @@ fn payload_check(payload: &[u8], n: usize, needed: &mut u64, given: &mut u64) ->
 }
 
 // The jitter step: scaled jitter and a transit delta in, the new scaled jitter out.
-#[unsafe(no_mangle)]
-pub extern "C" fn siwolkert_jitter_update(
-    jitter_q4: i64,
-    transit_delta: i32,
-    updated: &mut i64,
-) -> u8
+#[tactic(auto, unfolding(crate::specs::Figures::jitter_into, algorithms::specs::Jitter::update_of))]
+pub fn siwolkert_jitter_update(jitter_q4: i64, transit_delta: i32, updated: &mut i64) -> u8
     ensures { (result ≡ jitter_status jitter_q4) × (updated.new ≡ jitter_into jitter_q4 transit_delta updated.old) }
 {
     let answer = JitterEstimator { jitter_q4 }.update(transit_delta);
@@ -72,8 +59,8 @@ pub extern "C" fn siwolkert_jitter_update(
 }
 
 // The expected transmission count of two delivery ratios.
-#[unsafe(no_mangle)]
-pub extern "C" fn siwolkert_compute_etx(d_forward: f64, d_reverse: f64, etx: &mut f64) -> u8
+#[tactic(auto, unfolding(crate::specs::Figures::etx_into))]
+pub fn siwolkert_compute_etx(d_forward: f64, d_reverse: f64, etx: &mut f64) -> u8
     ensures { (result ≡ etx_status d_forward d_reverse) × (etx.new ≡ etx_into d_forward d_reverse etx.old) }
 {
     let answer = compute_etx(d_forward, d_reverse);

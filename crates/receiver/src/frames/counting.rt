@@ -9,6 +9,7 @@ use numbers::methods::{max_u64, saturating_add_u32};
 use refusals::ranges::counter_u64_ok;
 
 // One more where the counter is below the highest: out of order.
+#[tactic(auto, unfolding(crate::specs::Frames::reorders_after))]
 fn reorders_after(reorders: u64, highest: u64, counter: u64) -> u64
     requires { reorders + 1 < 2 ^ 64 }
     ensures { result ≡ reorders_after reorders highest counter }
@@ -21,6 +22,7 @@ fn reorders_after(reorders: u64, highest: u64, counter: u64) -> u64
 }
 
 // One more where the frame is marked CE.
+#[tactic(auto, unfolding(crate::specs::Frames::marked_after))]
 fn marked_after(count: u32, ce_flag: bool) -> u32
     ensures { result ≡ marked_after count ce_flag }
 {
@@ -45,6 +47,7 @@ fn late_by(arrival: Arrival) -> u64
 
 impl ReceiverState {
     // Interval and cumulative counts, reordering, loss bursts, lateness and ECN.
+    #[tactic(auto, unfolding(crate::specs::Frames::counted))]
     pub(crate) fn count(self, counter: u64, bytes: u32, ce_flag: bool) -> ReceiverState
         requires { Room self bytes }
         ensures { result ≡ counted self counter bytes ce_flag }

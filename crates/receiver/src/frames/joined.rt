@@ -59,6 +59,7 @@ impl ReceiverState {
     }
 
     // The window keeps its rule, and the buffers are as long as it.
+    #[tactic(auto, unfolding(algorithms::specs::Owd::keeps_the_rule))]
     fn window_lent(self, times: usize, delays: usize) -> bool
         ensures { result ≡ true → (owds.keeps_the_rule self.owd_trend ≡ true) × (owds.windows_ok self.owd_trend times delays ≡ true) }
     {

@@ -50,6 +50,7 @@ impl ReceiverState {
     }
 
     // A frame that moves no figure: in grace it still moves the echo, and not sampled it moves nothing.
+    #[tactic(auto, unfolding(crate::specs::Frames::echo_if_sampled))]
     fn echo_if_sampled(self, timestamp: u32, now_ms: u64, sampled: bool) -> ReceiverState
         ensures { result ≡ echo_if_sampled self timestamp now_ms sampled }
     {
@@ -65,6 +66,7 @@ impl ReceiverState {
     }
 
     // A frame out of grace moves all three, and clears an expired grace.
+    #[tactic(auto, unfolding(crate::specs::Frames::slot_for, samples::specs::Delay::delay_of, samples::specs::Delay::age_of, crate::specs::Frames::timing_sampled))]
     fn sample_timing(
         self,
         times: &mut [u32],
@@ -95,6 +97,7 @@ impl ReceiverState {
     }
 
     // Whether the frame pushes a sample: it is sampled, and out of grace.
+    #[tactic(auto, unfolding(crate::specs::Frames::pushes))]
     fn pushes(self, now_ms: u64, sampled: bool) -> bool
         ensures { result ≡ pushes self now_ms sampled }
     {
@@ -102,6 +105,7 @@ impl ReceiverState {
         sampled & !in_grace(deadline_ms, now_ms)
     }
 
+    #[tactic(auto, unfolding(crate::specs::Frames::with_sample, crate::specs::Frames::delays_after, crate::specs::Frames::times_after))]
     pub(crate) fn sample(
         self,
         times: &mut [u32],

@@ -1,6 +1,0 @@
--- `receiver::ReceiverState::answer_u64` meets its contract.
-use Rattle.receiver.proofs.ReceiverState.answer_u64.Statement.{statement}
-use Rattle.receiver.proofs.ReceiverState.answer_u64.Tie as tie
-
-pub answer-u64-spec : {M : Type 1} → statement M
-answer-u64-spec = tie.close (tie.spec (λ c κs. tt) (λ c κs. tt) (λ c. rw (c.of.ensures, c.before.refusal.ensures)))
