@@ -1,4 +1,4 @@
-//! Links libsiwolkert.a, which `rt staticlib siwolkert` writes. RATTLE_LIBS names its folder, else target/staticlib at the top of the repository.
+//! Links libsiwolkert.a, which tools/archive makes. RATTLE_LIBS names its folder, else target/staticlib at the top of the repository.
 //! Where oracle's build script finds upstream's source, the tests that compare with it are compiled too, by `cfg(upstream)`.
 
 use std::path::{Path, PathBuf};
@@ -13,7 +13,7 @@ fn archive() {
     let archive = dir.join("libsiwolkert.a");
     if !archive.exists() {
         eprintln!("siwolkert: {} is missing.", archive.display());
-        eprintln!("Run `rt staticlib siwolkert` at the top of the repository, or name the archive's folder in RATTLE_LIBS.");
+        eprintln!("Run tools/archive at the top of the repository, or name the archive's folder in RATTLE_LIBS.");
         process::exit(1);
     }
     println!("cargo::rerun-if-changed={}", archive.display());

@@ -1,4 +1,4 @@
-/* Proved link measurement: link target/staticlib/libsiwolkert.a, which `rt staticlib siwolkert` writes.
+/* Proved link measurement: link target/staticlib/libsiwolkert.a, which tools/archive makes.
  *
  * Every call takes any numbers, states and buffers. It returns 0, or the number of the first question that is answered no, and then leaves what it was
  * lent as it was (the payload checks write their two lengths beside a 7, and only there):

@@ -3,7 +3,7 @@
 //! Every call takes any numbers, states and buffers. It answers, or refuses by the number of the first question that is answered no ([`Refusal`]) and
 //! changes nothing that it was lent. What each call answers is proved, in crates/siwolkert of the repository; nothing is worked out here.
 //!
-//! The archive comes from `rt staticlib siwolkert`.
+//! The archive comes from tools/archive.
 
 pub mod raw;
 

@@ -63,7 +63,7 @@ fn help() -> String {
     for command in &COMMANDS {
         text += &format!("  {:<63}  {}\n", format!("{} {}", command.name, command.words), command.about);
     }
-    text += "PATH is the port's program, target/bin/replay where it is not named. S is 1, N 600000 for compare and 2000 for histories.\n";
+    text += "PATH is the port's program, crates/replay/out/replay where it is not named. S is 1, N 600000 for compare and 2000 for histories.\n";
     text + "Ends with 0; with 1 where something differs, is missing or can't be read; with 2 where a word is not known.\n"
 }
 
@@ -83,7 +83,7 @@ fn options(command: &Command, mut words: impl Iterator<Item = String>) -> Result
         cases: command.cases,
         seed: 1,
         calls: vec![],
-        replay: PathBuf::from("target/bin/replay"),
+        replay: PathBuf::from("crates/replay/out/replay"),
         named: None,
     };
     while let Some(word) = words.next() {
@@ -125,7 +125,7 @@ fn replay(options: &Options) -> io::Result<&Path> {
         return Ok(&options.replay);
     }
     Err(io::Error::other(format!(
-        "{} is missing: `rt check replay` at the top of the repository makes target/bin/replay, or --replay names another",
+        "{} is missing: `rt run` in crates/replay makes crates/replay/out/replay, or --replay names another",
         options.replay.display()
     )))
 }

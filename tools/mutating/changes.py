@@ -82,7 +82,7 @@ def within(inside, of):
     found, at = [], inside.start
     for line in text[inside.start : inside.end].splitlines(keepends=True):
         code = line.split("//")[0] + ("\n" if "//" in line else "")
-        if "⌜" not in code and not code.strip().startswith(("ensures", "invariant", "decreases")):
+        if not re.search("[≡×]", code) and not code.strip().startswith(("requires", "ensures", "invariant", "decreases", "ghost", "prove!")):
             for kind, pattern, replacements in KINDS:
                 for m in re.finditer(pattern, code):
                     news = [f"{m.group(1)}.{f}" for f in fields] if kind == "field" else [replaced(m, how) for how in replacements]

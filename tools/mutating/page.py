@@ -1,5 +1,5 @@
 """docs/WRONG_ANSWERS.md, as the tool makes it: a section for each crate, made anew whole."""
-import re
+import re, subprocess
 
 from .witness import CASES
 
@@ -8,7 +8,7 @@ HEAD = """# Wrong answers
 Made by `tools/mutations`: {count} wrong answers of {functions} functions, {few}, all refused by the prover.
 
 A wrong answer is a change that keeps the code's shape, in a public function of a library or in what it calls of its own crate, with an input on which the changed function answers otherwise. Both functions were run on that input, on the toolchain's
-interpreter; then the change was put to the prover, which refused it. Not counted are changes that show no difference on any of the {cases} inputs tried, changes whose run is undefined there, and changes that answer like another on all of them.
+interpreter; then the change was put to the prover, which refused it. A section that names no kit was made with the former toolchain's, `rattle-kit-5b-plain`. Not counted are changes that show no difference on any of the {cases} inputs tried, changes whose run is undefined there, and changes that answer like another on all of them.
 
 A change marked *written* was written by hand (tools/mutating/written), where drawing found too few; the others were drawn by the seed that the section names. Fields of an input that are not named are 0, no or none. Of an answer only the part that
 differs is shown.
@@ -47,7 +47,8 @@ def sections(path):
 
 
 def section(rows, seed, each):
-    lines = [f"Seed {seed}.", "", "| function | change | input | right | wrong |", "|---|---|---|---|---|"]
+    kit = subprocess.run(["rt", "version"], capture_output=True, text=True).stdout.strip()
+    lines = [f"Seed {seed}, kit `{kit}`.", "", "| function | change | input | right | wrong |", "|---|---|---|---|---|"]
     for function, found, tried in rows:
         lines += [row(answer) for answer in found]
         if len(found) < each:

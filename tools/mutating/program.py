@@ -1,4 +1,4 @@
-"""A program that calls one function on the inputs that it reads, and writes each answer: the result, and what was lent as the call left it."""
+"""A program that calls one function on the inputs that it reads, and writes a line for each: the case's place, and the answer: the result, and what was lent as the call left it."""
 import struct
 
 from .inputs import KINDS, SIGNED, pattern
@@ -7,6 +7,24 @@ from .inputs import KINDS, SIGNED, pattern
 BYTES, SLOTS = 88, 9
 
 PRELUDE = """
+use std::io::{self, Read, Write};
+
+const ROOM: usize = 16384;
+
+// An answer's text.
+#[derive(Drop)]
+struct Said {
+    bytes: [u8; 16384],
+    len: usize,
+}
+
+fn put(said: &mut Said, b: u8) {
+    if said.len < ROOM {
+        said.bytes[said.len] = b;
+        said.len += 1;
+    }
+}
+
 fn word(given: &[u8], at: usize) -> u64 {
     let mut n = 0u64;
     let mut i = 8usize;
@@ -31,34 +49,66 @@ fn signed(w: u64) -> i64 {
     -((18446744073709551615 - w) as i64) - 1
 }
 
-fn show(n: u64) {
-    io::print_decimal(2, n);
-    io::write_all(2, b" ");
+fn show(said: &mut Said, n: u64) {
+    let mut unit = 1u64;
+    while n / unit >= 10 {
+        unit *= 10;
+    }
+    while unit > 0 {
+        put(said, 48 + (n / unit % 10) as u8);
+        unit /= 10;
+    }
+    put(said, 32);
 }
 
-fn show_signed(z: i64) {
+fn show_signed(said: &mut Said, z: i64) {
     if 0 <= z {
-        show(z as u64);
+        show(said, z as u64);
     } else {
-        show(18446744073709551615 - (-(z + 1)) as u64);
+        show(said, 18446744073709551615 - (-(z + 1)) as u64);
     }
 }
 
-fn show_float(x: f64) {
+fn show_float(said: &mut Said, x: f64) {
     if x != x {
-        show(9221120237041090560);
+        show(said, 9221120237041090560);
     } else {
-        show(f64::to_bits(x));
+        show(said, x.to_bits());
     }
 }
 
-fn show_flag(b: bool) {
+fn show_flag(said: &mut Said, b: bool) {
     if b {
-        show(1);
+        show(said, 1);
     } else {
-        show(0);
+        show(said, 0);
     }
 }
+"""
+
+
+MAIN = """
+fn main(rt: HostRuntime) -> io::Result<()> {{
+    let mut given = [0u8; {size}];
+    let mut stdin = rt.stdin();
+    let mut stderr = rt.stderr();
+    let mut said = Said {{ bytes: [0u8; 16384], len: 0 }};
+    for i in 0..1000000u64 {{
+        let mut got = 0usize;
+        while got < {size} {{
+            let n = stdin.read(&mut given[got..])?;
+            if n == 0 {{
+                return Ok(());
+            }}
+            got += n;
+        }}
+        said.len = 0;
+        show(&mut said, i);
+        once(&given, &mut said);
+        stderr.write_all(&said.bytes[..said.len])?;
+    }}
+    Ok(())
+}}
 """
 
 
@@ -94,7 +144,7 @@ class Program:
                 if mutable:
                     # what was changed, with its place
                     lines.append(f"let was{i} = room{i};")
-                    after.append(f"j{i} = 0; while j{i} < {most(inner)} {{ if room{i}[j{i}] != was{i}[j{i}] {{ show(j{i} as u64); {self.show(inner, f'room{i}[j{i}]')} }} j{i} += 1; }}")
+                    after.append(f"j{i} = 0; while j{i} < {most(inner)} {{ if room{i}[j{i}] != was{i}[j{i}] {{ show(said, j{i} as u64); {self.show(inner, f'room{i}[j{i}]')} }} j{i} += 1; }}")
                 words += 1 + taken(inner)
             elif bare == "Reader":
                 lines += self.room(i, "u8", words)
@@ -103,7 +153,7 @@ class Program:
                 words += 1
                 call.append(f"a{i}")
                 if plain.startswith("&mut"):
-                    after.append(f"show(a{i}.pos as u64);")
+                    after.append(f"show(said, a{i}.pos as u64);")
             else:
                 lines.append(f"let mut a{i} = {self.read(bare, str(words), function.file)};")
                 words += self.width(bare, function.file)
@@ -124,14 +174,14 @@ class Program:
             lines.append(self.show_result(function.result))
         else:
             lines.append(f"{called};")
-        lines += ['io::write_all(2, b"| "); ' + line for line in after]
+        lines += ["put(said, 124); put(said, 32); " + line for line in after]
         body = "\n".join("    " + line for line in lines)
         size = max(8 * words, 8)
         self.text = (
             PRELUDE
             + "\n".join(self.made.values())
-            + f"\nfn once(given: &[u8]) {{\n{body}\n    io::write_all(2, b\";\\n\");\n}}\n"
-            + f"\nfn main() {{\n    let mut given = [0u8; {size}];\n    while io::read_full(0, &mut given) == {size} {{\n        once(&given);\n    }}\n}}\n"
+            + f"\nfn once(given: &[u8], said: &mut Said) {{\n{body}\n    put(said, 59);\n    put(said, 10);\n}}\n"
+            + MAIN.format(size=size)
         )
 
     def room(self, i, inner, at):
@@ -197,13 +247,13 @@ class Program:
     def show(self, kind, value, file=None):
         """A statement that writes the value."""
         if kind == "bool":
-            return f"show_flag({value});"
+            return f"show_flag(said, {value});"
         if kind == "f64":
-            return f"show_float({value});"
+            return f"show_float(said, {value});"
         if kind in SIGNED:
-            return f"show_signed({value}" + ("" if kind == "i64" else " as i64") + ");"
+            return f"show_signed(said, {value}" + ("" if kind == "i64" else " as i64") + ");"
         if kind in KINDS:
-            return f"show({value}" + ("" if kind == "u64" else " as u64") + ");"
+            return f"show(said, {value}" + ("" if kind == "u64" else " as u64") + ");"
         if kind.startswith("["):
             inner, length = kind[1:-1].split("; ")
             return " ".join(self.show(inner, f"{value}[{i}]") for i in range(int(length)))
@@ -222,17 +272,17 @@ class Program:
                 for tag, (variant, fields, named) in enumerate(declared.variants):
                     names = [n if named else f"v{n}" for n, _ in fields]
                     bound = (f" {{ {', '.join(names)} }}" if named else f"({', '.join(names)})") if names else ""
-                    parts = [f"show({tag});"] + [self.show(k, n, source) for n, (_, k) in zip(names, fields)]
+                    parts = [f"show(said, {tag});"] + [self.show(k, n, source) for n, (_, k) in zip(names, fields)]
                     arms.append(f"        {declared.path}::{variant}{bound} => {{ {' '.join(parts)} }}")
                 body = "    match x {\n" + "\n".join(arms) + "\n    }"
-            self.made[name] = f"fn {name}(x: {declared.path}) {{\n{body}\n}}\n"
-        return f"{name}({value});"
+            self.made[name] = f"fn {name}(said: &mut Said, x: {declared.path}) {{\n{body}\n}}\n"
+        return f"{name}(said, {value});"
 
     def show_result(self, kind):
         if kind.startswith("&"):
-            return "show(r.len() as u64); let mut j = 0usize; while j < r.len() { show(r[j] as u64); j += 1; }"
+            return "show(said, r.len() as u64); let mut j = 0usize; while j < r.len() { show(said, r[j] as u64); j += 1; }"
         if kind.startswith("Reader"):
-            return "show(r.pos as u64); let mut j = 0usize; while j < r.buf.len() { show(r.buf[j] as u64); j += 1; }"
+            return "show(said, r.pos as u64); let mut j = 0usize; while j < r.buf.len() { show(said, r.buf[j] as u64); j += 1; }"
         return self.show(kind, "r", self.function.file)
 
     # ---- an answer read back

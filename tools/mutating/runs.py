@@ -1,4 +1,4 @@
-"""A program run on the toolchain's interpreter, which stops at anything undefined: `rt try`, over a tree of crates that need not be proved."""
+"""A program run by `rt try`, over a tree of crates that need not be proved: on the toolchain's interpreter and compiled with checks, and either stops at anything undefined."""
 import os, re, subprocess
 
 NAME = "wrong_answers_probe"
@@ -14,43 +14,51 @@ class Run:
 def prepare(tree, crate):
     """Lists the probe, a program over one library, in the tree's crates.txt."""
     listed = [line for line in open(f"{tree}/crates.txt") if not line.startswith(NAME)]
-    open(f"{tree}/crates.txt", "w").write("".join(listed) + f"{NAME}: {crate} io libc\n")
+    open(f"{tree}/crates.txt", "w").write("".join(listed) + f"{NAME}: {crate}\n")
     os.makedirs(f"{tree}/crates/{NAME}/src", exist_ok=True)
-    # never what is written, so that the tool tells what the run wrote to standard error
-    open(f"{tree}/crates/{NAME}/stdout", "w").write("no\n")
 
 
 def once(tree, text, cases):
+    """What became of the run, and the answers by the places of their cases. Where a run stops, rt prints only the end of what it wrote."""
     open(f"{tree}/crates/{NAME}/src/main.rt", "w").write(text)
-    open(f"{tree}/crates/{NAME}/stdin", "wb").write(b"".join(cases))
     try:
-        said = subprocess.run(["rt", "try", NAME], cwd=tree, capture_output=True, text=True, timeout=240, errors="replace")
+        run = subprocess.run(["rt", "try", "--steps", str(20_000_000)], cwd=f"{tree}/crates/{NAME}", input=b"".join(cases), capture_output=True, timeout=240)
     except subprocess.TimeoutExpired:
-        return "stuck", []
-    out = said.stdout + said.stderr
-    if "rejected the crate" in out or "the interpreter" not in out:
-        return "no program", []
-    first = out[out.index("the interpreter") :]
-    stop = re.search(r"^(?:ok|FAIL): the native", first, re.M)
-    said = (first[: stop.start()] if stop else first).split("\n")
-    steps = next(i for i, line in enumerate(said) if re.search(r" steps=\d+$", line))
-    lines = [line[:-1].strip() for line in said[steps + 1 :] if re.fullmatch(r"(?:\d+ |\| )*;", line)]
-    return "ended" if said[0].startswith("the interpreter ended") else "more" if said[steps].startswith("running") else "undefined", lines
+        return "stuck", {}
+    said = run.stderr.decode(errors="replace") + "\n" + run.stdout.decode(errors="replace")
+    verdict = re.search(r"^run=(\S+)", said, re.M)
+    if not verdict or verdict.group(1) == "none":
+        return "no program", {}
+    lines = {int(at): line.strip() for at, line in re.findall(r"^(?:\| )?(\d+) ((?:\d+ |\| )*);$", said, re.M)}
+    return "ended" if verdict.group(1) == "ended" else "undefined" if verdict.group(1) == "fault" else "more", lines
 
 
 def run(tree, text, cases, most=12):
-    """All cases. The interpreter stops after a number of steps, and is run again for the rest. It also stops at a case that is undefined, and is run again after that, at most `most` times."""
-    answers = []
-    while len(answers) < len(cases):
-        became, lines = once(tree, text, cases[len(answers) :])
+    """All cases. A run stops at a case that is undefined, and is run again after that, at most `most` times; one that gives no answer is run again for fewer cases."""
+    answers, at, count = [None] * len(cases), 0, len(cases)
+    while at < len(cases):
+        became, lines = once(tree, text, cases[at : at + count])
         if became == "no program":
             return Run(False, [])
-        answers += lines[: len(cases) - len(answers)]
+        for place, line in lines.items():
+            answers[at + place] = line
         if became == "ended":
+            at += count
+            count = len(cases) - at
+            continue
+        if became != "undefined":
+            # no answer in the time: the half of them, down to one case that does not end
+            if count > 1:
+                count //= 2
+                continue
+        stopped = max(lines, default=-1) + 1
+        if any(answers[at + place] is None for place in range(stopped)):
+            # what was written first is not shown: these cases alone
+            count = stopped
+            continue
+        most -= 1
+        if most == 0:
             break
-        if became != "more" or not lines:
-            answers.append(None)
-            most -= 1
-            if most == 0 or became == "stuck":
-                break
-    return Run(True, (answers + [None] * len(cases))[: len(cases)])
+        at += stopped + 1
+        count = len(cases) - at
+    return Run(True, answers)

@@ -1,5 +1,5 @@
 """The input on which a changed function answers otherwise, found by running it beside the function as it stands."""
-import os, re
+import shutil
 
 from . import runs
 from .inputs import Inputs, shown
@@ -40,13 +40,11 @@ class Bench:
         self.tree, self.sources, self.seed, self.known = tree, sources, seed, {}
 
     def file(self, file):
-        """The file of the tree that stands for a file of the sources. A library may not bear the name of another's module there, as `reader` does."""
-        return file.replace(self.sources.root, self.tree).replace("/crates/reader/", "/crates/held_reader/")
+        """The file of the tree that stands for a file of the sources."""
+        return file.replace(self.sources.root, self.tree)
 
     def program(self, function, pad):
-        program = Program(self.sources, function, pad)
-        program.text = re.sub(r"(?<![:\w])reader::", "held_reader::", program.text)
-        return program
+        return Program(self.sources, function, pad)
 
     def ready(self, function):
         if function.path not in self.known:
@@ -54,7 +52,7 @@ class Bench:
             inputs = Inputs(self.sources, f"{self.seed} {function.path}")
             given = [inputs.case(function) for _ in range(CASES if function.params else 1)]
             cases = [program.bytes_of(values) for values in given]
-            runs.prepare(self.tree, function.crate.replace("reader", "held_reader"))
+            runs.prepare(self.tree, function.crate)
             ran = runs.run(self.tree, program.text, cases)
             if None in ran.lines or not ran.program:
                 raise SystemExit(f"{function.path}: not every case ran")
@@ -64,7 +62,7 @@ class Bench:
     def look(self, change):
         """A witness; or why there is none: the change does not compile ("no program"), or no input was found."""
         program, given, cases, right = self.ready(change.of)
-        runs.prepare(self.tree, change.of.crate.replace("reader", "held_reader"))
+        runs.prepare(self.tree, change.of.crate)
         path = self.file(change.file)
         text = open(path).read()
 
@@ -88,8 +86,6 @@ class Bench:
 
 
 def tree_for_runs(sources, tree):
-    """A copy of the libraries, in which nothing is proved."""
-    os.system(f"cp -a {sources.root}/crates {sources.root}/crates.txt {tree}/")
-    os.rename(f"{tree}/crates/reader", f"{tree}/crates/held_reader")
-    listed = open(f"{tree}/crates.txt").read()
-    open(f"{tree}/crates.txt", "w").write(re.sub(r"\breader\b", "held_reader", listed))
+    """A copy of the crates, in which nothing is proved."""
+    shutil.copytree(f"{sources.root}/crates", f"{tree}/crates", ignore=shutil.ignore_patterns("out"))
+    shutil.copy(f"{sources.root}/crates.txt", tree)
