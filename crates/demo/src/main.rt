@@ -12,8 +12,9 @@ mod print;
 mod smoothers;
 
 use life::Life;
+use std::env::{Env, FillError};
+use std::io;
 use std::io::{BufWriter, Write};
-use std::{env, io};
 
 const YEARS: u64 = 10;
 
@@ -79,7 +80,11 @@ fn ended(out: &mut impl Write, life: Life) -> io::Result<()> {
 }
 
 fn main(rt: HostRuntime) -> io::Result<()> {
-    let every = env::args(&rt)?.count() > 1;
+    // An argument of any bytes: one byte of it is enough to know that it is there.
+    let every = match rt.arg(1, &mut [0u8; 1]) {
+        Err(FillError::NotPresent) => false,
+        _ => true,
+    };
     let minutes = if every {
         calendar::FIRST_HOURS
     } else {

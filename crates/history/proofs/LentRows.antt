@@ -1,5 +1,5 @@
 -- The calls on a sender's record that the daemon lends are rows of the same table: the record and the status at exit are the step's of the record at entry.
--- Their proofs are walks by hand, for which there is no `Learnt`: here the contract's own clause says the row, in every model of the logic.
+-- The contract's own clause says the row, in every model of the logic. What C calls are exports of siwolkert_c, which have these clauses word for word.
 use mathlib.Core.Path.{◌≡◌, refl, sym, ap, ◌∙◌}
 use mathlib.Core.Logic.{◌≢◌}
 use mathlib.Core.Bool.{Bool, true, false}
