@@ -27,6 +27,16 @@ FIELDS = {
 }
 
 
+def bare(kind):
+    """A type without `&` and `&mut`."""
+    return kind.removeprefix("&").removeprefix("mut ")
+
+
+def slice_in(kind):
+    """Of what a lent buffer is, or nothing."""
+    return bare(kind)[1:-1] if kind.startswith("&") and bare(kind).startswith("[") and ";" not in kind else None
+
+
 class Inputs:
     def __init__(self, sources, seed):
         self.sources, self.rng = sources, random.Random(seed)
@@ -57,26 +67,23 @@ class Inputs:
             return self.pick(CLOCKS, LATE, mode)
         return self.pick([n for n in COUNTS if n < top], [], mode)
 
-    def of(self, kind, name, file, mode, capacity):
-        """A value of a type: a number, a list, a dict of fields, or a variant with its fields."""
+    def of(self, kind, name, mode, capacity):
+        """A value of a whole type: a number, a list, a dict of fields, or a variant with its fields."""
         if kind in KINDS or kind in SIGNED or kind in ("f64", "bool"):
             return self.number(kind, name, mode)
-        kind = kind.replace("&'a ", "&")
-        if kind.startswith("&") and not kind.endswith("]"):
-            return self.of(kind.replace("&mut ", "").replace("&", ""), name, file, mode, capacity)
-        if kind.startswith("["):
-            return self.bytes(int(kind[1:-1].split("; ")[1]))
-        if kind.startswith("&"):
-            inner = kind[kind.index("[") + 1 : -1]
+        if inner := slice_in(kind):
             length = self.rng.choice([0, 1, 2, 4, 8, 9, 46, 47, 48, 49, 66, 67, 68, 69, 80]) if inner == "u8" else capacity if self.rng.random() < (1, 0.97, 0.9, 0.5)[mode] else self.rng.randrange(9)
             return self.bytes(length) if inner == "u8" else [self.element(inner, mode) for _ in range(length)]
-        kind = kind.split("<")[0]
-        declared = self.sources.resolve(kind, file)
-        at = self.sources.file_of[declared.path]
-        if declared.fields is None:
-            variant, fields, _ = self.rng.choice(declared.variants)
-            return (variant, [self.of(k, name if n.isdigit() else n, at, mode, capacity) for n, k in fields])
-        value = {n: self.of(k, n, at, mode, capacity) for n, k in declared.fields}
+        kind = bare(kind)
+        if kind in KINDS or kind in SIGNED or kind in ("f64", "bool"):
+            return self.number(kind, name, mode)
+        if kind.startswith("["):
+            return self.bytes(int(kind[1:-1].split("; ")[1]))
+        declared, fields, variants = self.sources.declared(kind)
+        if variants:
+            variant, fields, _ = self.rng.choice(variants)
+            return (variant, [self.of(k, name if n.isdigit() else n, mode, capacity) for n, k in fields])
+        value = {n: self.of(k, n, mode, capacity) for n, k in fields}
         if mode < 3 and self.rng.random() < (1, 1, 0.8)[mode]:
             mend(declared.name, value, capacity)
         return value
@@ -93,13 +100,13 @@ class Inputs:
             return self.pick([0, 1, -1, 1000, 2000, -1000, 5000, 10**6, 2**41, 2**42, -(2**42)], [2**42 + 1, -(2**42) - 1, 2**63 - 1], mode)
         return self.number(kind, "", mode)
 
-    def case(self, function):
+    def case(self, params):
         """The arguments of one call."""
         mode = self.rng.choice([0, 1, 1, 1, 2, 2, 3])
         capacity = self.rng.choice([2, 2, 3, 4, 8])
-        values = [self.of(kind, name, function.file, mode, capacity) for name, kind in function.params]
+        values = [self.of(kind, name, mode, capacity) for name, kind in params]
         # two numbers that meet at the end of their width
-        kinds = [kind for _, kind in function.params]
+        kinds = [kind for _, kind in params]
         for i in range(len(kinds) - 1):
             if kinds[i] == kinds[i + 1] and kinds[i] in KINDS and self.rng.random() < 0.1:
                 values[i + 1] = max(0, 2 ** KINDS[kinds[i]] - 1 - values[i] + self.rng.choice([-1, 0]))
@@ -148,6 +155,8 @@ def shown(value):
         return str(value).replace("-", "−")
     if isinstance(value, tuple):
         return value[0] + (f"({', '.join(shown(v) for v in value[1])})" if value[1] else "")
+    if isinstance(value, dict) and "0" in value:
+        return "(" + ", ".join(shown(v) for v in value.values()) + ")"
     if isinstance(value, list):
         if len(value) > 4 and all(b == a + 1 for a, b in zip(value, value[1:])):
             return f"[{value[0]} .. {value[-1]}]"

@@ -1,10 +1,14 @@
-"""A program that calls one function on the inputs that it reads, and writes a line for each: the case's place, and the answer: the result, and what was lent as the call left it."""
-import struct
+"""A program that calls functions on the inputs that it reads, each beside changed copies of it, and writes where a copy answers otherwise. An answer is the result, and what was lent as the call left it."""
+import re, struct
 
-from .inputs import KINDS, SIGNED, pattern
+from .inputs import KINDS, SIGNED, bare, pattern, slice_in
+from .sources import split
 
 # a lent buffer is shorter than its room, so that the pad comes after it
 BYTES, SLOTS = 88, 9
+
+# a reader has a lent buffer in it
+READER, PLACE = "reader::Reader", "codec::Place"
 
 PRELUDE = """
 use std::io::{self, Read, Write};
@@ -88,33 +92,99 @@ fn show_flag(said: &mut Said, b: bool) {
 
 
 MAIN = """
+fn same(a: &Said, b: &Said) -> bool {{
+    if a.len != b.len {{
+        return false;
+    }}
+    let mut i = 0usize;
+    while i < a.len {{
+        if a.bytes[i] != b.bytes[i] {{
+            return false;
+        }}
+        i += 1;
+    }}
+    true
+}}
+
+fn sum(a: &Said) -> u64 {{
+    let mut n = 7u64;
+    let mut i = 0usize;
+    while i < a.len {{
+        n = (n * 31 + a.bytes[i] as u64) % 1000000000039;
+        i += 1;
+    }}
+    n
+}}
+
 fn main(rt: HostRuntime) -> io::Result<()> {{
     let mut given = [0u8; {size}];
     let mut stdin = rt.stdin();
     let mut stderr = rt.stderr();
-    let mut said = Said {{ bytes: [0u8; 16384], len: 0 }};
-    for i in 0..1000000u64 {{
-        let mut got = 0usize;
-        while got < {size} {{
-            let n = stdin.read(&mut given[got..])?;
-            if n == 0 {{
-                return Ok(());
-            }}
-            got += n;
-        }}
-        said.len = 0;
-        show(&mut said, i);
-        once(&given, &mut said);
-        stderr.write_all(&said.bytes[..said.len])?;
-    }}
+    let mut right = Said {{ bytes: [0u8; 16384], len: 0 }};
+    let mut wrong = Said {{ bytes: [0u8; 16384], len: 0 }};
+    let mut again = Said {{ bytes: [0u8; 16384], len: 0 }};
+    let mut line = Said {{ bytes: [0u8; 16384], len: 0 }};
+{calls}
     Ok(())
 }}
 """
 
-
-def referred(kind):
-    """Without `&`, `&mut` and lifetimes."""
-    return kind.replace("&'a ", "&").replace("&mut ", "").replace("&", "").split("<")[0]
+# the copies of one function: the place of a copy, each case on which it answers otherwise, whatever stands past a buffer's end, with the sum of its answer, and at the first of these both answers
+CALLS = """
+    let mut got = 0usize;
+    while got < {bytes} {{
+        let n = stdin.read(&mut given[got..{bytes}])?;
+        if n == 0 {{
+            return Ok(());
+        }}
+        got += n;
+    }}
+    let mut found = 0u64;
+    let mut k = {first}u64;
+    while (k < {stop}) & (found < {enough}) {{
+        line.len = 0;
+        put(&mut line, 109);
+        put(&mut line, 32);
+        show(&mut line, k);
+        put(&mut line, 59);
+        put(&mut line, 10);
+        stderr.write_all(&line.bytes[..line.len])?;
+        let mut differ = 0u64;
+        let mut i = 0usize;
+        while (i < {cases}) & (differ < 2) {{
+            right.len = 0;
+            once{j}(&given[i * {size}..(i + 1) * {size}], 0, 0, &mut right);
+            wrong.len = 0;
+            once{j}(&given[i * {size}..(i + 1) * {size}], k, 0, &mut wrong);
+            if !same(&right, &wrong) {{
+                again.len = 0;
+                once{j}(&given[i * {size}..(i + 1) * {size}], k, 77, &mut again);
+                if same(&wrong, &again) {{
+                    line.len = 0;
+                    put(&mut line, 100);
+                    put(&mut line, 32);
+                    show(&mut line, k);
+                    show(&mut line, i as u64);
+                    show(&mut line, sum(&wrong));
+                    put(&mut line, 58);
+                    stderr.write_all(&line.bytes[..line.len])?;
+                    if differ == 0 {{
+                        stderr.write_all(&right.bytes[..right.len])?;
+                        stderr.write_all(&[58u8])?;
+                        stderr.write_all(&wrong.bytes[..wrong.len])?;
+                    }}
+                    stderr.write_all(&[59u8, 10u8])?;
+                    differ += 1;
+                }}
+            }}
+            i += 1;
+        }}
+        if differ > 0 {{
+            found += 1;
+        }}
+        k += 1;
+    }}
+"""
 
 
 def most(inner):
@@ -127,86 +197,121 @@ def taken(inner):
     return BYTES // 8 if inner == "u8" else SLOTS
 
 
-class Program:
-    """`pad` stands in the room after a lent buffer, where no answer may look."""
+def word_of(kind):
+    """A type as a word of a function's name."""
+    return re.sub(r"\W+", "_", kind).strip("_").lower()
 
-    def __init__(self, sources, function, pad=0):
-        self.sources, self.function, self.made, self.pad = sources, function, {}, pad
+
+class Program:
+    """Of many calls, each of which has `copies` and `cases`."""
+
+    def __init__(self, calls, enough):
+        made, bodies, mains, first = {}, [], [], 1
+        for j, call in enumerate(calls):
+            stop = first + len(call.copies)
+            bodies.append(call.once(j, first))
+            made.update(call.made)
+            size = max(8 * call.words, 8)
+            mains.append(CALLS.format(j=j, size=size, cases=len(call.cases), bytes=size * len(call.cases), first=first, stop=stop, enough=enough))
+            first = stop
+        most = max(max(8 * call.words, 8) * len(call.cases) for call in calls)
+        self.text = PRELUDE + "\n".join(made.values()) + "\n".join(bodies) + MAIN.format(size=most, calls="".join(mains))
+        self.input = b"".join(case for call in calls for case in call.cases)
+
+
+class Call:
+    """One function; `bound` is what its parameters between `<` and `>` stand for. `copies` are the paths of its changed copies."""
+
+    def __init__(self, sources, function, bound={}):
+        self.sources, self.function, self.made, self.bound = sources, function, {}, bound
+        self.params, self.result = sources.params(function, bound), sources.result(function, bound)
+        self.cases, self.copies = [], []
+        self.words = sum(self.taken_by(kind) for _, kind in self.params)
+
+    def taken_by(self, kind):
+        if inner := slice_in(kind):
+            return 1 + taken(inner)
+        return 1 + taken("u8") + self.width(PLACE) if bare(kind) == READER else self.width(bare(kind))
+
+    def once(self, j, first):
+        """A function that makes the call on one case: of the function where `which` is 0, else of the copy that has this place."""
         lines, call, after = [], [], []
         words = 0
-        for i, (name, kind) in enumerate(function.params):
-            plain, bare = kind.replace("&'a ", "&"), referred(kind)
-            if bare.startswith("[") and ";" not in bare:
-                inner = bare[1:-1]
-                mutable = plain.startswith("&mut")
+        for i, (name, kind) in enumerate(self.params):
+            of = bare(kind)
+            if inner := slice_in(kind):
+                mutable = kind.startswith("&mut")
                 lines += self.room(i, inner, words)
                 call.append(f"&{'mut ' if mutable else ''}room{i}[..length{i}]")
                 if mutable:
                     # what was changed, with its place
                     lines.append(f"let was{i} = room{i};")
                     after.append(f"j{i} = 0; while j{i} < {most(inner)} {{ if room{i}[j{i}] != was{i}[j{i}] {{ show(said, j{i} as u64); {self.show(inner, f'room{i}[j{i}]')} }} j{i} += 1; }}")
-                words += 1 + taken(inner)
-            elif bare == "Reader":
+            elif of == READER:
                 lines += self.room(i, "u8", words)
-                words += 1 + taken("u8")
-                lines.append(f"let mut a{i} = {sources.resolve(bare, function.file).path} {{ buf: &room{i}[..length{i}], pos: word(given, {words}) as usize }};")
-                words += 1
+                lines.append(f"let mut a{i} = {READER} {{ buf: &room{i}[..length{i}], at: {self.read(PLACE, str(words + 1 + taken('u8')))} }};")
                 call.append(f"a{i}")
-                if plain.startswith("&mut"):
-                    after.append(f"show(said, a{i}.pos as u64);")
+                if kind.startswith("&mut"):
+                    after.append(self.show(PLACE, f"a{i}.at"))
             else:
-                lines.append(f"let mut a{i} = {self.read(bare, str(words), function.file)};")
-                words += self.width(bare, function.file)
+                lines.append(f"let mut a{i} = {self.read(of, str(words))};")
                 lent = kind.startswith("&")
                 call.append((("&mut " if kind.startswith("&mut") else "&") if lent and name != "self" else "") + f"a{i}")
                 if kind.startswith("&mut"):
-                    after.append(self.show(bare, f"a{i}", function.file))
-        self.words = words
-        path = function.path
-        if function.params and function.params[0][0] == "self":
-            called = f"{call[0]}.{function.name}({', '.join(call[1:])})"
-        elif function.owner:
-            called = f"{sources.resolve(function.owner, function.file).path}::{function.name}({', '.join(call)})"
+                    after.append(self.show(of, f"a{i}"))
+            words += self.taken_by(kind)
+        called = [self.called(call, None)] + [self.called(call, copy) for copy in self.copies]
+        chosen = "".join(f"if which == {k and k + first - 1} {{ {c} }} else " for k, c in enumerate(called[:-1])) + f"{{ {called[-1]} }}"
+        if self.result:
+            lines.append(f"let r = {chosen};")
+            lines.append(self.show_result(self.result))
         else:
-            called = f"{path}({', '.join(call)})"
-        if function.result:
-            lines.append(f"let r = {called};")
-            lines.append(self.show_result(function.result))
-        else:
-            lines.append(f"{called};")
+            lines.append(chosen.replace(" }", "; }"))
         lines += ["put(said, 124); put(said, 32); " + line for line in after]
         body = "\n".join("    " + line for line in lines)
-        size = max(8 * words, 8)
-        self.text = (
-            PRELUDE
-            + "\n".join(self.made.values())
-            + f"\nfn once(given: &[u8], said: &mut Said) {{\n{body}\n    put(said, 59);\n    put(said, 10);\n}}\n"
-            + MAIN.format(size=size)
-        )
+        return f"\nfn once{j}(given: &[u8], which: u64, pad: u64, said: &mut Said) {{\n{body}\n}}\n"
+
+    def called(self, arguments, suffix):
+        """The call, or one of a copy, whose name has a suffix. A copy of a trait's function stands by itself in the module."""
+        function = self.function
+        name = function.name + (suffix or "") + (f"::<{', '.join(self.bound.values())}>" if self.bound else "")
+        if function.params and function.params[0][0] == "self":
+            return f"{arguments[0]}.{name}({', '.join(arguments[1:])})"
+        if function.owner and not (function.trait and suffix):
+            return f"{self.sources.whole(function.owner, function.file)}::{name}({', '.join(arguments)})"
+        return f"{function.module}::{name}({', '.join(arguments)})"
 
     def room(self, i, inner, at):
         """A buffer and its length, from the words at `at`."""
         value = f"given[{8 * (at + 1)} + j{i}]" if inner == "u8" else self.read(inner, f"{at + 1} + j{i}")
         return [
-            f"let mut room{i} = [{self.pad}{inner}; {most(inner)}];",
+            f"let mut room{i} = [pad as {inner}; {most(inner)}];",
             f"let length{i} = word(given, {at}) as usize;",
             f"let mut j{i} = 0usize;",
             f"while j{i} < length{i} {{ room{i}[j{i}] = {value}; j{i} += 1; }}",
         ]
 
-    # ---- types
-    def width(self, kind, file):
+    # ---- types, written whole
+    def fields(self, kind):
+        """The fields of a struct or a tuple, by name; nothing where it is an enum."""
+        if kind.startswith("("):
+            return [(str(i), k) for i, k in enumerate(split(kind[1:-1]))]
+        return self.sources.declared(kind)[1] or None
+
+    def variants(self, kind):
+        return self.sources.declared(kind)[2]
+
+    def width(self, kind):
         if kind in KINDS or kind in SIGNED or kind in ("f64", "bool"):
             return 1
         if kind.startswith("["):
-            return int(kind[1:-1].split("; ")[1])
-        declared = self.sources.resolve(kind, file)
-        at = self.sources.file_of[declared.path]
-        if declared.fields is not None:
-            return sum(self.width(k, at) for _, k in declared.fields)
-        return 1 + sum(self.width(k, at) for _, fields, _ in declared.variants for _, k in fields)
+            inner, length = kind[1:-1].split("; ")
+            return self.width(inner) * int(length)
+        if (fields := self.fields(kind)) is not None:
+            return sum(self.width(k) for _, k in fields)
+        return 1 + sum(self.width(k) for _, fields, _ in self.variants(kind) for _, k in fields)
 
-    def read(self, kind, at, file=None):
+    def read(self, kind, at):
         """An expression for the value that stands in the words from `at` on."""
         if kind == "bool":
             return f"word(given, {at}) == 1"
@@ -220,100 +325,113 @@ class Program:
             return f"word(given, {at})" + ("" if kind == "u64" else f" as {kind}")
         if kind.startswith("["):
             inner, length = kind[1:-1].split("; ")
-            return "[" + ", ".join(self.read(inner, f"{at} + {i}") for i in range(int(length))) + "]"
-        declared = self.sources.resolve(kind, file)
-        name = "read_" + declared.path.replace("::", "_").lower()
+            return "[" + ", ".join(self.read(inner, f"{at} + {i * self.width(inner)}") for i in range(int(length))) + "]"
+        name = "read_" + word_of(kind)
         if name not in self.made:
             self.made[name] = ""
-            source = self.sources.file_of[declared.path]
             place, lines = 0, []
-            if declared.fields is not None:
-                for n, k in declared.fields:
-                    lines.append(f"    let {n} = {self.read(k, f'at + {place}', source)};")
-                    place += self.width(k, source)
-                lines.append(f"    {declared.path} {{ {', '.join(n for n, _ in declared.fields)} }}")
+            if (fields := self.fields(kind)) is not None:
+                parts = []
+                for n, k in fields:
+                    lines.append(f"    let v_{n} = {self.read(k, f'at + {place}')};")
+                    parts.append(f"v_{n}" if n.isdigit() else f"{n}: v_{n}")
+                    place += self.width(k)
+                lines.append("    " + self.built(kind, fields, parts))
             else:
                 place = 1
-                for tag, (variant, fields, named) in enumerate(declared.variants):
+                variants = self.variants(kind)
+                for tag, (variant, fields, named) in enumerate(variants):
                     parts = []
                     for n, k in fields:
-                        parts.append((f"{n}: " if named else "") + self.read(k, f"at + {place}", source))
-                        place += self.width(k, source)
-                    made = f"{declared.path}::{variant}" + (f" {{ {', '.join(parts)} }}" if named else f"({', '.join(parts)})" if parts else "")
-                    lines.append(f"    if word(given, at) == {tag} {{ return {made}; }}" if tag + 1 < len(declared.variants) else f"    {made}")
-            self.made[name] = f"fn {name}(given: &[u8], at: usize) -> {declared.path} {{\n" + "\n".join(lines) + "\n}\n"
+                        parts.append((f"{n}: " if named else "") + self.read(k, f"at + {place}"))
+                        place += self.width(k)
+                    made = self.variant(kind, variant) + (f" {{ {', '.join(parts)} }}" if named else f"({', '.join(parts)})" if parts else "")
+                    lines.append(f"    if word(given, at) == {tag} {{ return {made}; }}" if tag + 1 < len(variants) else f"    {made}")
+            self.made[name] = f"fn {name}(given: &[u8], at: usize) -> {self.spelled(kind)} {{\n" + "\n".join(lines) + "\n}\n"
         return f"{name}(given, {at})"
 
-    def show(self, kind, value, file=None):
+    def built(self, kind, fields, parts):
+        path = kind.split("<")[0]
+        if kind.startswith("("):
+            return f"({', '.join(parts)})"
+        return f"{path}({', '.join(parts)})" if fields and fields[0][0].isdigit() else f"{path} {{ {', '.join(parts)} }}"
+
+    def variant(self, kind, name):
+        return name if kind.split("<")[0] in ("Option", "Result") else f"{kind.split('<')[0]}::{name}"
+
+    def spelled(self, kind):
+        return kind.replace("Range<", "std::ops::Range<")
+
+    def show(self, kind, value):
         """A statement that writes the value."""
+        if kind == "()":
+            return ""
         if kind == "bool":
             return f"show_flag(said, {value});"
         if kind == "f64":
             return f"show_float(said, {value});"
         if kind in SIGNED:
-            return f"show_signed(said, {value}" + ("" if kind == "i64" else " as i64") + ");"
+            return f"show_signed(said, {value}{'' if kind == 'i64' else ' as i64'});"
         if kind in KINDS:
-            return f"show(said, {value}" + ("" if kind == "u64" else " as u64") + ");"
+            return f"show(said, {value}{'' if kind == 'u64' else ' as u64'});"
         if kind.startswith("["):
             inner, length = kind[1:-1].split("; ")
             return " ".join(self.show(inner, f"{value}[{i}]") for i in range(int(length)))
-        declared = self.sources.resolve(kind, file)
-        name = "show_" + declared.path.replace("::", "_").lower()
+        name = "show_" + word_of(kind)
         if name not in self.made:
             self.made[name] = ""
-            source = self.sources.file_of[declared.path]
-            if declared.fields is not None:
-                lines = []
-                for n, k in declared.fields:
-                    lines.append(f"    let {n} = x.{n};\n    {self.show(k, n, source)}")
-                body = "\n".join(lines)
+            if (fields := self.fields(kind)) is not None:
+                body = "\n".join(f"    let v_{n} = x.{n};\n    {self.show(k, f'v_{n}')}" for n, k in fields)
             else:
                 arms = []
-                for tag, (variant, fields, named) in enumerate(declared.variants):
+                for tag, (variant, fields, named) in enumerate(self.variants(kind)):
                     names = [n if named else f"v{n}" for n, _ in fields]
-                    bound = (f" {{ {', '.join(names)} }}" if named else f"({', '.join(names)})") if names else ""
-                    parts = [f"show(said, {tag});"] + [self.show(k, n, source) for n, (_, k) in zip(names, fields)]
-                    arms.append(f"        {declared.path}::{variant}{bound} => {{ {' '.join(parts)} }}")
+                    holes = [n if k != "()" else "()" for n, (_, k) in zip(names, fields)]
+                    bound = (f" {{ {', '.join(holes)} }}" if named else f"({', '.join(holes)})") if names else ""
+                    parts = [f"show(said, {tag});"] + [self.show(k, n) for n, (_, k) in zip(names, fields)]
+                    arms.append(f"        {self.variant(kind, variant)}{bound} => {{ {' '.join(parts)} }}")
                 body = "    match x {\n" + "\n".join(arms) + "\n    }"
-            self.made[name] = f"fn {name}(said: &mut Said, x: {declared.path}) {{\n{body}\n}}\n"
+            self.made[name] = f"fn {name}(said: &mut Said, x: {self.spelled(kind)}) {{\n{body}\n}}\n"
         return f"{name}(said, {value});"
 
     def show_result(self, kind):
         if kind.startswith("&"):
             return "show(said, r.len() as u64); let mut j = 0usize; while j < r.len() { show(said, r[j] as u64); j += 1; }"
-        if kind.startswith("Reader"):
-            return "show(said, r.pos as u64); let mut j = 0usize; while j < r.buf.len() { show(said, r.buf[j] as u64); j += 1; }"
-        return self.show(kind, "r", self.function.file)
+        if kind == READER:
+            return self.show(PLACE, "r.at") + " let mut j = 0usize; while j < r.buf.len() { show(said, r.buf[j] as u64); j += 1; }"
+        return self.show(kind, "r")
 
     # ---- an answer read back
     def answer(self, line):
         """The result, and for each thing lent what it holds, or in a buffer what was changed; each by its name."""
         parts = [iter(int(word) for word in part.split()) for part in line.split("|")]
         said = {}
-        if self.function.result:
-            said["answer"] = self.value_of(self.function.result, parts[0], self.function.file)
-        lent = [(name, kind) for name, kind in self.function.params if kind.startswith("&mut")]
+        if self.result:
+            said["answer"] = self.value_of(self.result, parts[0])
+        lent = [(name, kind) for name, kind in self.params if kind.startswith("&mut")]
         for (name, kind), part in zip(lent, parts[1:]):
-            bare = referred(kind)
-            if bare == "Reader":
-                said[name] = {"pos": next(part)}
-            elif bare.startswith("["):
-                said[name] = {f"[{at}]": self.value_of(bare[1:-1], part, None) for at in part}
+            if bare(kind) == READER:
+                said[name] = {"at": self.value_of(PLACE, part)}
+            elif inner := slice_in(kind):
+                said[name] = {f"[{at}]": self.value_of(inner, part) for at in part}
             else:
-                said[name] = self.value_of(bare, part, self.function.file)
+                said[name] = self.value_of(bare(kind), part)
         return said
 
     def past_end(self, values, line):
         """Whether a lent buffer was written past its end."""
         said = self.answer(line)
-        lent = {name: value for (name, kind), value in zip(self.function.params, values) if kind.startswith("&mut [")}
+        lent = {name: value for (name, kind), value in zip(self.params, values) if kind.startswith("&mut [")}
         return any(int(at[1:-1]) >= len(lent[name]) for name in lent for at in said[name])
 
-    def value_of(self, kind, words, file):
+    def value_of(self, kind, words):
+        """A struct or a tuple is a dict of its fields, and a variant stands with a list of its own."""
         if kind.startswith("&"):
             return [next(words) for _ in range(next(words))]
-        if kind.startswith("Reader"):
-            return {"pos": next(words), "buf": list(words)}
+        if kind == READER:
+            return {"at": self.value_of(PLACE, words), "buf": list(words)}
+        if kind == "()":
+            return {}
         if kind == "bool":
             return next(words) == 1
         if kind == "f64":
@@ -325,25 +443,22 @@ class Program:
             return next(words)
         if kind.startswith("["):
             inner, length = kind[1:-1].split("; ")
-            return [self.value_of(inner, words, file) for _ in range(int(length))]
-        declared = self.sources.resolve(kind, file)
-        at = self.sources.file_of[declared.path]
-        if declared.fields is not None:
-            return {n: self.value_of(k, words, at) for n, k in declared.fields}
-        variant, fields, _ = declared.variants[next(words)]
-        return (variant, [self.value_of(k, words, at) for _, k in fields])
+            return [self.value_of(inner, words) for _ in range(int(length))]
+        if (fields := self.fields(kind)) is not None:
+            return {n: self.value_of(k, words) for n, k in fields}
+        variant, fields, _ = self.variants(kind)[next(words)]
+        return (variant, [self.value_of(k, words) for _, k in fields if k != "()"])
 
     # ---- a case as bytes
     def bytes_of(self, values):
         words = []
-        for (name, kind), value in zip(self.function.params, values):
-            bare = referred(kind)
-            if bare == "Reader":
-                words += self.slice_of("u8", value["buf"]) + [value["pos"]]
-            elif bare.startswith("[") and ";" not in bare:
-                words += self.slice_of(bare[1:-1], value)
+        for (_, kind), value in zip(self.params, values):
+            if inner := slice_in(kind):
+                words += self.slice_of(inner, value)
+            elif bare(kind) == READER:
+                words += self.slice_of("u8", value["buf"]) + self.words_of(PLACE, value["at"])
             else:
-                words += self.words_of(bare, value, self.function.file)
+                words += self.words_of(bare(kind), value)
         assert len(words) == self.words, (self.function.path, len(words), self.words)
         return struct.pack(f"<{max(len(words), 1)}Q", *(words or [0]))
 
@@ -352,22 +467,20 @@ class Program:
             return [len(values)] + list(struct.unpack(f"<{BYTES // 8}Q", bytes(values).ljust(BYTES, b"\0")))
         return [len(values)] + [v % 2**64 for v in values] + [0] * (SLOTS - len(values))
 
-    def words_of(self, kind, value, file):
+    def words_of(self, kind, value):
         if kind == "f64":
             return [pattern(value)]
         if kind in KINDS or kind in SIGNED or kind == "bool":
             return [int(value) % 2**64]
         if kind.startswith("["):
-            return [v % 2**64 for v in value]
-        declared = self.sources.resolve(kind, file)
-        at = self.sources.file_of[declared.path]
-        if declared.fields is not None:
-            return [w for n, k in declared.fields for w in self.words_of(k, value[n], at)]
+            return [w for v in value for w in self.words_of(kind[1:-1].split("; ")[0], v)]
+        if (fields := self.fields(kind)) is not None:
+            return [w for n, k in fields for w in self.words_of(k, value[n])]
         words = []
-        for tag, (variant, fields, _) in enumerate(declared.variants):
+        for tag, (variant, fields, _) in enumerate(self.variants(kind)):
             if variant == value[0]:
                 words = [tag] + words
-                words += [w for (_, k), v in zip(fields, value[1]) for w in self.words_of(k, v, at)]
+                words += [w for (_, k), v in zip(fields, value[1]) for w in self.words_of(k, v)]
             else:
-                words += [0] * sum(self.width(k, at) for _, k in fields)
+                words += [0] * sum(self.width(k) for _, k in fields)
         return words

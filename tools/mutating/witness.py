@@ -1,11 +1,11 @@
 """The input on which a changed function answers otherwise, found by running it beside the function as it stands."""
-import shutil
+import re, shutil, sys
 
-from . import runs
-from .inputs import Inputs, shown
-from .program import Program
+from . import changes, runs
+from .inputs import Inputs, plain, shown
+from .program import Call, Program
 
-CASES = 900
+CASES = 500
 
 
 class Witness:
@@ -15,77 +15,170 @@ class Witness:
         self.given, self.right, self.wrong, self.lines = given, right, wrong, lines
 
 
-def leaves(value, path=""):
-    """Every number in a value, by its path."""
+def parted(value):
+    """Whether a value has parts with names of their own."""
+    return isinstance(value, dict) or isinstance(value, tuple) and any(parted(v) for v in value[1])
+
+
+def differing(right, wrong, path=""):
+    """Where two answers differ: the path, and what either has there, or nothing."""
+    if repr(right) == repr(wrong):
+        return []
+    if isinstance(right, dict) and isinstance(wrong, dict):
+        # a tuple's parts by their numbers, and a buffer's by their places
+        names = list(right) + [n for n in wrong if n not in right]
+        return [d for n in names for d in differing(right.get(n), wrong.get(n), path + n if n.startswith("[") else f"{path}.{n}" if path else n)]
+    if isinstance(right, tuple) and isinstance(wrong, tuple) and right[0] == wrong[0] and parted(right):
+        return [d for a, b in zip(right[1], wrong[1]) for d in differing(a, b, f"{path}.{right[0]}")]
+    return [(path, right, wrong)]
+
+
+def brief(value):
+    """A value, with `..` for a part of it that is long."""
+    whole = shown(value)
+    if len(whole) <= 60:
+        return whole
+    if isinstance(value, tuple):
+        return f"{value[0]}({', '.join(brief(v) for v in value[1])})"
     if isinstance(value, dict):
-        return {k: v for n, w in value.items() for k, v in leaves(w, path + n if n.startswith("[") else f"{path}.{n}" if path else n).items()}
-    return {path: value}
+        words = [(n, shown(v)) for n, v in value.items() if "0" in value or not plain(v)]
+        short = [word if n.isdigit() else f"{n} {word}" for n, word in words if len(word) <= 24][:2]
+        return ("(%s)" if "0" in value else "{%s}") % ", ".join(short + [".."])
+    return whole
 
 
 def apart(right, wrong):
     """Two answers, as far as they differ."""
-    a, b = leaves(right), leaves(wrong)
-    names = [n for n in list(a) + [n for n in b if n not in a] if repr(a.get(n)) != repr(b.get(n))]
+    found = differing(right, wrong)
 
-    def said(answer):
-        return ", ".join(f"{n.removeprefix('answer.')} {shown(answer[n])}" if n != "answer" else shown(answer[n]) for n in names if n in answer) or "as it was"
+    def said(which):
+        parts = [(d[0], d[which]) for d in found if d[which] is not None]
+        return ", ".join(f"{n.removeprefix('answer.')} {brief(v)}" if n != "answer" else brief(v) for n, v in parts) or "as it was"
 
-    return said(a), said(b)
+    return said(1), said(2)
+
+
+class Tried:
+    """A change in one call; `suffix` names its copies. `became`: "differs", "no input found", "no program", "undefined", "not run" where enough others were found, or nothing yet."""
+
+    def __init__(self, change, call, given, suffix):
+        self.change, self.call, self.given, self.suffix, self.became, self.witness = change, call, given, suffix, None, None
 
 
 class Bench:
-    """A tree of crates to run functions in, with the answers of the functions as they stand."""
+    """A tree of crates to run functions in, each beside changed copies of it."""
 
     def __init__(self, tree, sources, seed):
-        self.tree, self.sources, self.seed, self.known = tree, sources, seed, {}
+        self.tree, self.sources, self.seed, self.known, self.count = tree, sources, seed, {}, 0
 
     def file(self, file):
         """The file of the tree that stands for a file of the sources."""
         return file.replace(self.sources.root, self.tree)
 
-    def program(self, function, pad):
-        return Program(self.sources, function, pad)
-
-    def ready(self, function):
+    def calls(self, function):
+        """Each way to call a function, with its inputs, the ones that are shortest to name first."""
         if function.path not in self.known:
-            program = self.program(function, 0)
-            inputs = Inputs(self.sources, f"{self.seed} {function.path}")
-            given = [inputs.case(function) for _ in range(CASES if function.params else 1)]
-            cases = [program.bytes_of(values) for values in given]
-            runs.prepare(self.tree, function.crate)
-            ran = runs.run(self.tree, program.text, cases)
-            if None in ran.lines or not ran.program:
-                raise SystemExit(f"{function.path}: not every case ran")
-            self.known[function.path] = (program, given, cases, ran.lines)
+            known = self.known[function.path] = []
+            for bound in function.calls():
+                call = Call(self.sources, function, bound)
+                inputs = Inputs(self.sources, f"{self.seed} {function.path}")
+                given = [inputs.case(call.params) for _ in range(CASES if function.params else 1)]
+                given = sorted(given, key=lambda values: len(self.named(call, values)))
+                call.cases = [call.bytes_of(values) for values in given]
+                known.append((call, given))
         return self.known[function.path]
 
-    def look(self, change):
-        """A witness; or why there is none: the change does not compile ("no program"), or no input was found."""
-        program, given, cases, right = self.ready(change.of)
-        runs.prepare(self.tree, change.of.crate)
-        path = self.file(change.file)
-        text = open(path).read()
+    def named(self, call, values):
+        return ", ".join([f"{name} {to}" for name, to in call.bound.items()] + [f"{name} {shown(value)}" for (name, _), value in zip(call.params, values)]) or "none"
 
-        def said(i):
-            return ", ".join(f"{name} {shown(value)}" for (name, _), value in zip(change.of.params, given[i])) or "none"
+    def look(self, crate, wanted, enough):
+        """Tries changes of functions of one crate: all of them at once, and what a stop or an error left, again. Gives what became of each."""
+        runs.prepare(self.tree, crate)
+        tried = []
+        for change in wanted:
+            self.count += 1
+            tried += [Tried(change, call, given, f"_w{self.count}") for call, given in self.calls(change.of)]
+        while todo := [one for one in tried if one.became is None]:
+            self.round(todo, enough)
+        return tried
 
-        try:
-            open(path, "w").write(change.applied(text))
-            ran = runs.run(self.tree, program.text, cases)
-            if not ran.program:
-                return "no program"
-            differing = [i for i, line in enumerate(ran.lines) if line is not None and line != right[i]]
-            # an index past a buffer's end is undefined, and the interpreter does not see it: the answer may not depend on what stands there
-            for i in sorted(differing, key=lambda i: len(said(i)))[:4]:
-                again = runs.run(self.tree, self.program(change.of, 77).text, [cases[i]])
-                if again.lines == [ran.lines[i]] and not program.past_end(given[i], ran.lines[i]):
-                    return Witness(said(i), *apart(program.answer(right[i]), program.answer(ran.lines[i])), ran.lines)
-        finally:
-            open(path, "w").write(text)
-        return "no input found"
+    def round(self, todo, enough):
+        """One run. It takes at least one change off those that are to do."""
+        texts, spans = {}, []
+        for one in {one.suffix: one for one in todo}.values():
+            for function, copy in changes.copies(one.change, one.suffix, self.sources.functions):
+                texts.setdefault(function.file, []).append((function, one.suffix, copy))
+        for file, added in texts.items():
+            spans += self.put(file, added)
+        calls = []
+        for call in {id(one.call): one.call for one in todo}.values():
+            call.copies = [one.suffix for one in todo if one.call is call]
+            calls.append(call)
+        order = [one for call in calls for one in todo if one.call is call]
+        program = Program(calls, enough)
+        became, said = runs.once(self.tree, program.text, program.input)
+        for file in texts:
+            open(self.file(file), "w").write(open(file).read())
+        print(f"{len(calls)} calls, {len(order)} changes: {became}", file=sys.stderr, flush=True)
+        if became == "no program":
+            bad = {suffix for file, line in re.findall(r"([\w./]+\.rt):(\d+):\d+: error", said) for path, start, stop, suffix in spans if path.endswith(file.split("crates/")[-1]) and start <= int(line) < stop}
+            bad |= set(re.findall(r"_w\d+(?=\W)", said)) & {one.suffix for one in todo} if not bad else set()
+            if not bad:
+                raise SystemExit(f"no program, and no change is at fault:\n{said[-3000:]}")
+            for one in todo:
+                if one.suffix in bad:
+                    one.became = "no program"
+            return
+        self.read(order, became, said)
+
+    def put(self, file, added):
+        """Copies into the tree's file, after the functions that they are copies of; the lines that each has."""
+        text = open(file).read()
+        places = []
+        for function, suffix, copy in added:
+            at = len(text) if function.trait else text.index("\n", function.end) + 1
+            places.append((at, suffix, copy))
+        spans, done, whole = [], 0, ""
+        for at, suffix, copy in sorted(places, key=lambda place: place[0]):
+            whole += text[done:at]
+            done = at
+            line = whole.count("\n") + 1
+            whole += copy
+            spans.append((self.file(file), line, line + copy.count("\n"), suffix))
+        open(self.file(file), "w").write(whole + text[done:])
+        return spans
+
+    def read(self, order, became, said):
+        """What a run said of each change that it came to."""
+        started, told = [], {}
+        for line in re.findall(r"^(?:\| )?([md] [^;\n]*);$", said, re.M):
+            if line[0] == "m":
+                started.append(int(line.split()[1]))
+            else:
+                head, *answers = line[2:].split(":")
+                k, i, total = (int(word) for word in head.split())
+                told.setdefault(k, []).append((i, total, answers))
+        if became != "ended":
+            # rt shows only the end of what was written: the change that the run stopped at is put aside, and all others are run again
+            stopped = order[started[-1] - 1]
+            stopped.became = "undefined"
+            print(f"undefined: {stopped.change.of.path}, {stopped.change.old!r} to {stopped.change.new!r}", file=sys.stderr, flush=True)
+            return
+        for k, one in enumerate(order, 1):
+            if k in told:
+                i, _, answers = told[k][0]
+                right, wrong = (one.call.answer(answer) for answer in answers)
+                if one.call.past_end(one.given[i], answers[1]):
+                    one.became = "no input found"
+                    continue
+                one.became = "differs"
+                lines = (tuple(one.call.bound.values()), tuple((i, total) for i, total, _ in told[k]))
+                one.witness = Witness(self.named(one.call, one.given[i]), *apart(right, wrong), lines)
+            else:
+                one.became = "no input found" if k in started else "not run"
 
 
 def tree_for_runs(sources, tree):
     """A copy of the crates, in which nothing is proved."""
-    shutil.copytree(f"{sources.root}/crates", f"{tree}/crates", ignore=shutil.ignore_patterns("out"))
+    shutil.copytree(f"{sources.root}/crates", f"{tree}/crates", ignore=shutil.ignore_patterns("out", "must-fail", "proofs"))
     shutil.copy(f"{sources.root}/crates.txt", tree)

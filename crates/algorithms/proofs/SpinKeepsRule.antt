@@ -4,9 +4,8 @@ use mathlib.Core.Bool.{beq}
 use Rattle.refusals.specs.Questions.{question}
 use Rattle.refusals.specs.Ranges.{clock_ok}
 use Rattle.refusals.proofs.FirstNoFound.{each_yes}
-use Rattle.algorithms.specs.Spin.{keeps_the_rule, fresh, unmoved, edge, taken, reflected, copied, observed, observe_refusal, restart_of, rx_observe_of}
+use Rattle.algorithms.specs.Spin.{keeps_the_rule, fresh, unmoved, edge, taken, reflected, copied, observed, observe_refusal, restart_of, rx_observe_of, SpinObserved}
 use Rattle.algorithms.specs.declared.spin.SpinBitState.{SpinBitState}
-use Rattle.algorithms.specs.declared.spin.SpinObserved.{SpinObserved}
 
 -- nothing refused: the rule is kept, and the clock is in range
 pub observe_asked : (s : SpinBitState) (now : ℕ) → observe_refusal s now ≡ 0 → (keeps_the_rule s ≡ true) × (clock_ok now ≡ true)

@@ -3,13 +3,10 @@ use Rattle.std.specs.Prelude.{ℕ, Bool, true, false, cond, ◌&&◌, [], ◌∷
 use Rattle.std.specs.Float.{binary64}
 use Rattle.limits.specs.Limits.{ewma_short_alpha, ewma_long_alpha}
 use Rattle.floats.specs.Operations.{zero_float, step}
-use Rattle.refusals.specs.Answers.{answer_f64, answer_bool}
+use Rattle.refusals.specs.Answers.{Answer, Update, answer}
 use Rattle.refusals.specs.Questions.{question, first_no}
 use Rattle.refusals.specs.Ranges.{trend_ok}
-use Rattle.refusals.specs.declared.answer.AnswerBool.{AnswerBool}
-use Rattle.refusals.specs.declared.answer.AnswerF64.{AnswerF64}
 use Rattle.algorithms.specs.declared.ewma.DualEwma.{DualEwma}
-use Rattle.algorithms.specs.declared.ewma.EwmaUpdate.{EwmaUpdate}
 
 -- document 01, "State rule": trends are 0 to 2^64, none NaN
 unfoldable pub keeps_the_rule : DualEwma → Bool
@@ -37,15 +34,15 @@ unfoldable pub update_refusal : DualEwma → Float → ℕ
 update_refusal s x = first_no (question 1 (keeps_the_rule s) ∷ question 11 (trend_ok x) ∷ [])
 
 -- an update: the step, and the state as given on a refusal
-unfoldable pub update_of : DualEwma → Float → EwmaUpdate
+unfoldable pub update_of : DualEwma → Float → Update DualEwma
 update_of s x = record { refusal = update_refusal s x; state = cond (update_refusal s x == 0) (stepped s x) s }
 
 -- the fields, and 0 or no on a refusal
-abbrev pub short_of : DualEwma → AnswerF64
-short_of s = answer_f64 (refusal_of s) s.short
+abbrev pub short_of : DualEwma → Answer Float
+short_of s = answer zero_float (refusal_of s) s.short
 
-abbrev pub long_of : DualEwma → AnswerF64
-long_of s = answer_f64 (refusal_of s) s.long
+abbrev pub long_of : DualEwma → Answer Float
+long_of s = answer zero_float (refusal_of s) s.long
 
-abbrev pub initialized_of : DualEwma → AnswerBool
-initialized_of s = answer_bool (refusal_of s) s.initialized
+abbrev pub initialized_of : DualEwma → Answer Bool
+initialized_of s = answer false (refusal_of s) s.initialized

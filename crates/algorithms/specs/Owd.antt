@@ -1,10 +1,10 @@
 -- The one-way delay window: its rule, its live pairs, and what each call leaves of it. Definitions only.
 use Rattle.std.specs.Prelude.{◌≡◌, ℕ, ◌+◌, ◌-◌, ◌<◌, ◌≤◌, min, max, Bool, true, false, cond, ◌&&◌, List, [], ◌∷◌, ◌++◌, length, take, drop, ℤ, ◌==◌, nat_le, nat_lt, slice_set}
 use Rattle.limits.specs.Limits.{min_owd_window_size, max_owd_window_size}
+use Rattle.refusals.specs.Answers.{Update}
 use Rattle.refusals.specs.Questions.{question, first_no}
 use Rattle.refusals.specs.Ranges.{delay_ok}
 use Rattle.algorithms.specs.declared.owd.OwdTrendDetector.{OwdTrendDetector}
-use Rattle.algorithms.specs.declared.owd.OwdUpdate.{OwdUpdate}
 
 -- ---- the rule: document 01, "State rule"
 -- "Capacity is clamped to 2 to 256, and the state rule follows": document 02, W-202
@@ -80,11 +80,11 @@ chosen true after given = after
 chosen false after given = given
 
 -- a call's refusal, and the state that it leaves
-abbrev pub update : ℕ → OwdTrendDetector → OwdTrendDetector → OwdUpdate
+abbrev pub update : ℕ → OwdTrendDetector → OwdTrendDetector → Update OwdTrendDetector
 update refusal after given = record { refusal = refusal; state = chosen (refusal == 0) after given }
 
 -- "Clearing sets count and first slot to 0 and writes no slot": document 01, "Jitter, delay trend and bursts"
-unfoldable pub clear_answer : OwdTrendDetector → OwdUpdate
+unfoldable pub clear_answer : OwdTrendDetector → Update OwdTrendDetector
 clear_answer s = update (first_no (question 1 (keeps_the_rule s) ∷ [])) (empty s.capacity) s
 
 -- ---- a push: "A full window drops its oldest pair": document 01, "Jitter, delay trend and bursts"
@@ -107,7 +107,7 @@ unfoldable pub push_refusal : OwdTrendDetector → List ℕ → List ℤ → ℤ
 push_refusal s times delays us = first_no (question 1 (keeps_the_rule s) ∷ question 4 (windows_ok s (length times) (length delays)) ∷ question 5 (delay_ok us) ∷ [])
 
 -- the state after a push
-unfoldable pub push_answer : OwdTrendDetector → List ℕ → List ℤ → ℤ → OwdUpdate
+unfoldable pub push_answer : OwdTrendDetector → List ℕ → List ℤ → ℤ → Update OwdTrendDetector
 push_answer s times delays us = update (push_refusal s times delays us) (grown s) s
 
 -- a buffer after a push: x in the free slot, or as it was beside a refusal

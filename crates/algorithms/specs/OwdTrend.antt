@@ -3,8 +3,8 @@ use Rattle.std.specs.Prelude.{ℕ, cond, List, [], ◌∷◌, length, ℤ, pos, 
 use Rattle.std.specs.Float.{binary64}
 use Rattle.std.specs.Float.Ieee.{add, sub, mul, div, lt, of_int, to_signed}
 use Rattle.floats.specs.Operations.{zero_float, thousand_float, weight}
+use Rattle.refusals.specs.Answers.{Answer}
 use Rattle.refusals.specs.Questions.{question, first_no}
-use Rattle.refusals.specs.declared.answer.AnswerI32.{AnswerI32}
 use Rattle.algorithms.specs.Owd.{Pair, keeps_the_rule, windows_ok, window, samples_ok}
 use Rattle.algorithms.specs.declared.owd.OwdTrendDetector.{OwdTrendDetector}
 
@@ -53,11 +53,11 @@ unfoldable pub trend_of : List Pair → ℤ
 trend_of ps = trend_from (total time ps) (total delay ps) ps
 
 -- question 5 of every live pair, then the trend
-unfoldable pub live_trend : List Pair → AnswerI32
+unfoldable pub live_trend : List Pair → Answer ℤ
 live_trend ps = record { refusal = cond (samples_ok ps) 0 5; value = cond (samples_ok ps) (trend_of ps) (pos 0) }
 
 -- questions 1, 4 and 5 of every live sample, then the trend
-unfoldable pub trend_answer : OwdTrendDetector → List ℕ → List ℤ → AnswerI32
+unfoldable pub trend_answer : OwdTrendDetector → List ℕ → List ℤ → Answer ℤ
 trend_answer s times delays =
     let refusal = first_no (question 1 (keeps_the_rule s) ∷ question 4 (windows_ok s (length times) (length delays)) ∷ question 5 (samples_ok (window s times delays)) ∷ []) in
     record { refusal = refusal; value = cond (refusal == 0) (trend_of (window s times delays)) (pos 0) }

@@ -1,15 +1,18 @@
 -- The spin bit as algorithms.rs has it, after RFC 9000, 17.4: an initiator flips it when it comes back, a responder copies it. Definitions only.
-use Rattle.std.specs.Prelude.{ℕ, ◌-◌, Bool, false, cond, not, [], ◌∷◌, ◌==◌, nat_lt}
+use Rattle.std.specs.Prelude.{ℕ, ◌-◌, Bool, false, cond, not, [], ◌∷◌, ◌==◌, nat_lt, None, Option, Some, Result}
 use Rattle.std.specs.Bool.{beq}
-use Rattle.refusals.specs.Answers.{answer_bool}
+use Rattle.refusals.specs.Answers.{Answer, Update, answer, settled_with}
 use Rattle.refusals.specs.Questions.{question, first_no}
 use Rattle.refusals.specs.Ranges.{clock_ok, optional_clock_ok}
-use Rattle.refusals.specs.declared.answer.AnswerBool.{AnswerBool}
-use Rattle.refusals.specs.declared.option.OptionU64.{OptionU64}
-use Rattle.refusals.specs.declared.option.OptionU64.TheVariants.{None, Some}
+use Rattle.refusals.specs.declared.refusal.Refused.{Refused}
 use Rattle.algorithms.specs.declared.spin.SpinBitState.{SpinBitState}
-use Rattle.algorithms.specs.declared.spin.SpinUpdate.{SpinUpdate}
-use Rattle.algorithms.specs.declared.spin.SpinObserved.{SpinObserved}
+use Rattle.algorithms.specs.declared.spin.Observed.{Observed}
+
+-- a state after a frame, with the round trip that the frame ended
+pub record SpinObserved : Type 0 where
+  pub refusal : ℕ
+  pub rtt_ms : Option ℕ
+  pub state : SpinBitState
 
 -- document 01, "State rule": the last edge, a clock field, obeys question 2
 unfoldable pub keeps_the_rule : SpinBitState → Bool
@@ -28,18 +31,18 @@ unfoldable pub observe_refusal : SpinBitState → ℕ → ℕ
 observe_refusal s now = first_no (question 1 (keeps_the_rule s) ∷ question 2 (clock_ok now) ∷ [])
 
 -- a restart keeps the role, and on a refusal the state as given
-unfoldable pub restart_of : SpinBitState → SpinUpdate
+unfoldable pub restart_of : SpinBitState → Update SpinBitState
 restart_of s = record { refusal = refusal_of s; state = cond (refusal_of s == 0) (fresh s.is_initiator) s }
 
 -- the role, and the bit to set on an outgoing frame; no on a refusal
-abbrev pub is_initiator_of : SpinBitState → AnswerBool
-is_initiator_of s = answer_bool (refusal_of s) s.is_initiator
+abbrev pub is_initiator_of : SpinBitState → Answer Bool
+is_initiator_of s = answer false (refusal_of s) s.is_initiator
 
-abbrev pub tx_bit_of : SpinBitState → AnswerBool
-tx_bit_of s = answer_bool (refusal_of s) s.current_value
+abbrev pub tx_bit_of : SpinBitState → Answer Bool
+tx_bit_of s = answer false (refusal_of s) s.current_value
 
 -- the round trip that an edge ends: the time since the last one, 0 if the clock fell, none at the first
-abbrev pub since_edge : OptionU64 → ℕ → OptionU64
+abbrev pub since_edge : Option ℕ → ℕ → Option ℕ
 since_edge None now = None
 since_edge (Some edge) now = Some (now - edge)
 
@@ -90,3 +93,11 @@ observed s bit counter now = cond s.is_initiator (reflected s bit now) (copied s
 -- the same after the questions: a refusal has no round trip, and the state as given
 unfoldable pub rx_observe_of : SpinBitState → Bool → ℕ → ℕ → SpinObserved
 rx_observe_of s bit counter now = cond (observe_refusal s now == 0) (observed s bit counter now) (unmoved (observe_refusal s now) s)
+
+-- ---- the same as the calls' results
+-- a frame's, which nothing refuses
+abbrev pub seen : SpinObserved → Observed
+seen o = record { rtt_ms = o.rtt_ms; state = o.state }
+
+abbrev pub observed_as : SpinObserved → Result (SpinBitState × Option ℕ) (Refused SpinBitState)
+observed_as o = settled_with o.refusal o.state o.rtt_ms

@@ -2,13 +2,10 @@
 use Rattle.std.specs.Prelude.{ℕ, Bool, true, false, cond, ◌&&◌, [], ◌∷◌, ℤ, pos, ◌==◌}
 use Rattle.numbers.specs.RoundTrip.{Estimate, no_estimate, estimate, estimate_step}
 use Rattle.numbers.specs.Signs.{as_unsigned}
-use Rattle.refusals.specs.Answers.{answer_i64, answer_bool}
+use Rattle.refusals.specs.Answers.{Answer, Update, answer}
 use Rattle.refusals.specs.Questions.{question, first_no}
 use Rattle.refusals.specs.Ranges.{round_trip_ok}
-use Rattle.refusals.specs.declared.answer.AnswerBool.{AnswerBool}
-use Rattle.refusals.specs.declared.answer.AnswerI64.{AnswerI64}
 use Rattle.algorithms.specs.declared.srtt.SrttEstimator.{SrttEstimator}
-use Rattle.algorithms.specs.declared.srtt.SrttUpdate.{SrttUpdate}
 
 -- document 01, "State rule": SRTT and RTTVAR are 0 to 2^42, as a round trip is
 unfoldable pub keeps_the_rule : SrttEstimator → Bool
@@ -40,15 +37,15 @@ unfoldable pub update_refusal : SrttEstimator → ℤ → ℕ
 update_refusal s r = first_no (question 1 (keeps_the_rule s) ∷ question 8 (round_trip_ok r) ∷ [])
 
 -- an update: the step, and the state as given on a refusal
-unfoldable pub update_of : SrttEstimator → ℤ → SrttUpdate
+unfoldable pub update_of : SrttEstimator → ℤ → Update SrttEstimator
 update_of s r = record { refusal = update_refusal s r; state = cond (update_refusal s r == 0) (stepped s r) s }
 
 -- the fields, and 0 or no on a refusal
-abbrev pub srtt_us_of : SrttEstimator → AnswerI64
-srtt_us_of s = answer_i64 (refusal_of s) s.srtt_us
+abbrev pub srtt_us_of : SrttEstimator → Answer ℤ
+srtt_us_of s = answer (pos 0) (refusal_of s) s.srtt_us
 
-abbrev pub rttvar_us_of : SrttEstimator → AnswerI64
-rttvar_us_of s = answer_i64 (refusal_of s) s.rttvar_us
+abbrev pub rttvar_us_of : SrttEstimator → Answer ℤ
+rttvar_us_of s = answer (pos 0) (refusal_of s) s.rttvar_us
 
-abbrev pub initialized_of : SrttEstimator → AnswerBool
-initialized_of s = answer_bool (refusal_of s) s.initialized
+abbrev pub initialized_of : SrttEstimator → Answer Bool
+initialized_of s = answer false (refusal_of s) s.initialized

@@ -1,26 +1,21 @@
 // Dual EWMA trend detector: a short trend of recent conditions beside a long one.
 
 ghost use Rattle.std.specs.Prelude.{◌≡◌};
+ghost use Rattle.refusals.specs.Answers.{passed, settled, told};
 ghost use Rattle.algorithms.specs.Ewma.{keeps_the_rule, refusal_of, fresh, stepped, update_of, short_of, long_of, initialized_of};
 
-use floats::{long_step, short_step};
-use refusals::answer::{AnswerBool, AnswerF64};
+use floats::step;
+use limits::{EWMA_LONG_ALPHA, EWMA_SHORT_ALPHA};
 use refusals::questions::Questions;
 use refusals::ranges::trend_ok;
+use refusals::refusal::{Refusal, Refused};
 
 #[derive(Clone, Copy)]
 pub struct DualEwma {
     pub short: f64,
     pub long: f64,
-    // The first sample has come.
+    // The first sample has come. A flag beside the numbers and no Option: a call hands back, and replay prints, what they hold where it is off too.
     pub initialized: bool,
-}
-
-// A detector after a call that may refuse.
-#[derive(Clone, Copy)]
-pub struct EwmaUpdate {
-    pub refusal: u8,
-    pub state: DualEwma,
 }
 
 impl DualEwma {
@@ -34,12 +29,6 @@ impl DualEwma {
         }
     }
 
-    pub fn default() -> DualEwma
-        ensures { result ≡ fresh }
-    {
-        DualEwma::new()
-    }
-
     #[tactic(auto, unfolding(crate::specs::Ewma::keeps_the_rule))]
     pub fn keeps_rule(self) -> bool
         ensures { result ≡ keeps_the_rule self }
@@ -49,9 +38,10 @@ impl DualEwma {
         short & long
     }
 
+    // Question 1 alone. Each record has these lines and its `keeps_rule`: a trait for them would have to be told each rule again, by a law.
     #[tactic(auto, unfolding(crate::specs::Ewma::refusal_of, refusals::specs::Questions::first_no, refusals::specs::Questions::asked))]
-    fn refusal(self) -> u8
-        ensures { result ≡ refusal_of self }
+    fn ask(self) -> Result<(), Refusal>
+        ensures { result ≡ passed (refusal_of self) }
     {
         let mut q = Questions::all_yes();
         q.state = self.keeps_rule();
@@ -65,8 +55,8 @@ impl DualEwma {
     {
         if self.initialized {
             DualEwma {
-                short: short_step(self.short, sample),
-                long: long_step(self.long, sample),
+                short: step(EWMA_SHORT_ALPHA, self.short, sample),
+                long: step(EWMA_LONG_ALPHA, self.long, sample),
                 initialized: true,
             }
         } else {
@@ -78,40 +68,47 @@ impl DualEwma {
         }
     }
 
-    #[tactic(auto, unfolding(crate::specs::Ewma::update_of, crate::specs::Ewma::update_refusal, refusals::specs::Questions::first_no, refusals::specs::Questions::asked))]
-    pub fn update(self, sample: f64) -> EwmaUpdate
-        ensures { result ≡ update_of self sample }
+    #[tactic(auto, unfolding(crate::specs::Ewma::update_of, crate::specs::Ewma::update_refusal, refusals::specs::Questions::first_no, refusals::specs::Questions::asked, refusals::specs::Answers::admitted, refusals::specs::Answers::settled))]
+    pub fn update(self, sample: f64) -> Result<DualEwma, Refused<DualEwma>>
+        ensures { result ≡ settled (update_of self sample) }
     {
         let mut q = Questions::all_yes();
         q.state = self.keeps_rule();
         q.values = trend_ok(sample);
-        let refusal = q.first_no();
-        if refusal == 0 {
-            let state = self.update_unchecked(sample);
-            EwmaUpdate { refusal, state }
-        } else {
-            EwmaUpdate {
-                refusal,
-                state: self,
-            }
-        }
+        q.admit(self)?;
+        Ok(self.update_unchecked(sample))
     }
 
-    pub fn short(self) -> AnswerF64
-        ensures { result ≡ short_of self }
+    #[tactic(auto, unfolding(refusals::specs::Answers::answered, refusals::specs::Answers::answer))]
+    pub fn short(self) -> Result<f64, Refusal>
+        ensures { result ≡ told (short_of self) }
     {
-        AnswerF64::of(self.refusal(), self.short)
+        self.ask()?;
+        Ok(self.short)
     }
 
-    pub fn long(self) -> AnswerF64
-        ensures { result ≡ long_of self }
+    #[tactic(auto, unfolding(refusals::specs::Answers::answered, refusals::specs::Answers::answer))]
+    pub fn long(self) -> Result<f64, Refusal>
+        ensures { result ≡ told (long_of self) }
     {
-        AnswerF64::of(self.refusal(), self.long)
+        self.ask()?;
+        Ok(self.long)
     }
 
-    pub fn initialized(self) -> AnswerBool
-        ensures { result ≡ initialized_of self }
+    #[tactic(auto, unfolding(refusals::specs::Answers::answered, refusals::specs::Answers::answer))]
+    pub fn initialized(self) -> Result<bool, Refusal>
+        ensures { result ≡ told (initialized_of self) }
     {
-        AnswerBool::of(self.refusal(), self.initialized)
+        self.ask()?;
+        Ok(self.initialized)
+    }
+}
+
+// No derive: `default` is `new`, whose definition is its law.
+impl Default for DualEwma {
+    ghost is_default = { λ s. s ≡ fresh };
+
+    fn default() -> DualEwma {
+        DualEwma::new()
     }
 }

@@ -1,13 +1,14 @@
 // Jitter estimator (RFC 3550, 6.4.1).
 
 ghost use Rattle.std.specs.Prelude.{◌≡◌};
+ghost use Rattle.refusals.specs.Answers.{passed, settled, told};
 ghost use Rattle.numbers.specs.Jitter.{reported};
 ghost use Rattle.algorithms.specs.Jitter.{keeps_the_rule, refusal_of, fresh, stepped, update_of, jitter_us_of};
 
 use numbers::jitter_step;
-use numbers::signs::{signed, unsigned, unsigned_abs};
-use refusals::answer::AnswerU32;
+use numbers::signs::unsigned;
 use refusals::questions::Questions;
+use refusals::refusal::{Refusal, Refused};
 
 // The greatest scaled jitter, where steps of |D| = 2^31 come to rest.
 pub const MAX_JITTER_Q4: i64 = 1 << 35;
@@ -17,13 +18,6 @@ pub const MAX_JITTER_Q4: i64 = 1 << 35;
 pub struct JitterEstimator {
     // Sixteen times the jitter, in µs.
     pub jitter_q4: i64,
-}
-
-// An estimator after a call that may refuse.
-#[derive(Clone, Copy)]
-pub struct JitterUpdate {
-    pub refusal: u8,
-    pub state: JitterEstimator,
 }
 
 // A sixteenth, rounded down.
@@ -40,21 +34,16 @@ impl JitterEstimator {
         JitterEstimator { jitter_q4: 0 }
     }
 
-    pub fn default() -> JitterEstimator
-        ensures { result ≡ fresh }
-    {
-        JitterEstimator::new()
-    }
-
     pub fn keeps_rule(self) -> bool
         ensures { result ≡ keeps_the_rule self }
     {
         (0 <= self.jitter_q4) & (self.jitter_q4 <= MAX_JITTER_Q4)
     }
 
+    // Question 1 alone: ewma.rt says why each record has these lines.
     #[tactic(auto, unfolding(crate::specs::Jitter::refusal_of, refusals::specs::Questions::first_no, refusals::specs::Questions::asked))]
-    fn refusal(self) -> u8
-        ensures { result ≡ refusal_of self }
+    fn ask(self) -> Result<(), Refusal>
+        ensures { result ≡ passed (refusal_of self) }
     {
         let mut q = Questions::all_yes();
         q.state = self.keeps_rule();
@@ -66,41 +55,38 @@ impl JitterEstimator {
     pub fn update_unchecked(self, transit_delta: i32) -> JitterEstimator
         ensures { result ≡ stepped self transit_delta }
     {
-        let scaled = unsigned(self.jitter_q4);
-        let next = jitter_step(scaled, unsigned_abs(transit_delta));
+        let next = jitter_step(unsigned(self.jitter_q4), transit_delta.unsigned_abs());
         JitterEstimator {
-            jitter_q4: signed(next),
+            jitter_q4: next.cast_signed(),
         }
     }
 
     // `transit_delta` = (R_i − R_{i−1}) − (S_i − S_{i−1}) in µs.
-    #[tactic(auto, unfolding(crate::specs::Jitter::update_of))]
-    pub fn update(self, transit_delta: i32) -> JitterUpdate
-        ensures { result ≡ update_of self transit_delta }
+    #[tactic(auto, unfolding(crate::specs::Jitter::update_of, crate::specs::Jitter::refusal_of, refusals::specs::Questions::first_no, refusals::specs::Questions::asked, refusals::specs::Answers::admitted, refusals::specs::Answers::settled))]
+    pub fn update(self, transit_delta: i32) -> Result<JitterEstimator, Refused<JitterEstimator>>
+        ensures { result ≡ settled (update_of self transit_delta) }
     {
-        let refusal = self.refusal();
-        if refusal == 0 {
-            let state = self.update_unchecked(transit_delta);
-            JitterUpdate { refusal, state }
-        } else {
-            JitterUpdate {
-                refusal,
-                state: self,
-            }
-        }
+        let mut q = Questions::all_yes();
+        q.state = self.keeps_rule();
+        q.admit(self)?;
+        Ok(self.update_unchecked(transit_delta))
     }
 
     // The jitter in µs.
-    #[tactic(auto, unfolding(crate::specs::Jitter::jitter_us_of))]
-    pub fn jitter_us(self) -> AnswerU32
-        ensures { result ≡ jitter_us_of self }
+    #[tactic(auto, unfolding(crate::specs::Jitter::jitter_us_of, refusals::specs::Answers::answered))]
+    pub fn jitter_us(self) -> Result<u32, Refusal>
+        ensures { result ≡ told (jitter_us_of self) }
     {
-        let refusal = self.refusal();
-        if refusal == 0 {
-            let value = sixteenth(unsigned(self.jitter_q4)) as u32;
-            AnswerU32 { refusal, value }
-        } else {
-            AnswerU32 { refusal, value: 0 }
-        }
+        self.ask()?;
+        Ok(sixteenth(unsigned(self.jitter_q4)) as u32)
+    }
+}
+
+// No derive: `default` is `new`, whose definition is its law.
+impl Default for JitterEstimator {
+    ghost is_default = { λ x. x ≡ fresh };
+
+    fn default() -> JitterEstimator {
+        JitterEstimator::new()
     }
 }

@@ -2,15 +2,17 @@
 
 ghost use Rattle.std.specs.Prelude.{◌≡◌, ◌+◌, min, true, slice_set};
 ghost use Rattle.floats.specs.Operations.{zero_float};
+ghost use Rattle.refusals.specs.Answers.{settled, told};
 ghost use Rattle.algorithms.specs.Owd.{Rule, Lent, keeps_the_rule, windows_ok, empty, new_of, clear_answer, onward, free, grown, push_refusal, push_answer, stored, window, samples_ok};
 ghost use Rattle.algorithms.specs.OwdTrend.{time, delay, product, total, trend_from, live_trend, trend_answer};
-ghost use Rattle.algorithms.specs.Passes.{Summed};
+ghost use Rattle.algorithms.specs.Passes.{summed};
 
-use crate::passes::{Moments, Sums};
-use refusals::answer::AnswerI32;
+use crate::passes::{Moments, Sums, moments_over, sums_over};
 use refusals::questions::Questions;
+use refusals::refusal::{Refusal, Refused};
 
-// The live pairs stand in `count` slots from `first` on, oldest first; after the last slot comes slot 0.
+// Two lent buffers, no list of pairs and no struct of both: the rules have them so, and the memory is the caller's. The live pairs stand in `count` slots from `first`
+// on, oldest first; after the last slot comes slot 0. `Lent` is no invariant of a type either: a caller may hand in buffers of any length.
 #[derive(Clone, Copy)]
 pub struct OwdTrendDetector {
     pub capacity: usize,
@@ -18,40 +20,21 @@ pub struct OwdTrendDetector {
     pub first: usize,
 }
 
-#[derive(Clone, Copy)]
-pub struct OwdUpdate {
-    pub refusal: u8,
-    pub state: OwdTrendDetector,
-}
-
 // The slot n after this one, counted past a ring's end again from slot 0.
 fn onward(capacity: usize, slot: usize, n: usize) -> usize
     ensures { result ≡ onward capacity slot n }
 {
-    if slot < capacity {
-        let left = capacity - slot;
-        if n < left {
-            return slot + n;
-        }
-        return n - left;
-    }
-    n
+    let left = capacity.saturating_sub(slot);
+    if n < left { slot + n } else { n - left }
 }
 
 // A slot past the end is not there to be written.
-fn put_time(times: &mut [u32], slot: usize, at_ms: u32)
-    ensures { times.new ≡ slice_set times.old slot at_ms }
+fn put<T: Copy>(slots: &mut [T], slot: usize, value: T)
+    ensures { slots.new ≡ slice_set slots.old slot value }
 {
-    if slot < times.len() {
-        times[slot] = at_ms;
-    }
-}
-
-fn put_delay(delays: &mut [i64], slot: usize, owd_us: i64)
-    ensures { delays.new ≡ slice_set delays.old slot owd_us }
-{
-    if slot < delays.len() {
-        delays[slot] = owd_us;
+    // Not `get_mut`: the library says no more than the length of a slice that is written through it.
+    if slot < slots.len() {
+        slots[slot] = value;
     }
 }
 
@@ -90,13 +73,7 @@ impl OwdTrendDetector {
     pub fn new(capacity: usize) -> Self
         ensures { result ≡ new_of capacity }
     {
-        if capacity < limits::MIN_OWD_WINDOW_SIZE {
-            return Self::empty(limits::MIN_OWD_WINDOW_SIZE);
-        }
-        if capacity > limits::MAX_OWD_WINDOW_SIZE {
-            return Self::empty(limits::MAX_OWD_WINDOW_SIZE);
-        }
-        Self::empty(capacity)
+        Self::empty(capacity.clamp(limits::MIN_OWD_WINDOW_SIZE, limits::MAX_OWD_WINDOW_SIZE))
     }
 
     // `clear` for a record that has asked its questions.
@@ -107,24 +84,14 @@ impl OwdTrendDetector {
     }
 
     // Forget every pair, keeping the capacity.
-    #[tactic(auto, unfolding(crate::specs::Owd::clear_answer, refusals::specs::Questions::first_no, refusals::specs::Questions::asked))]
-    pub fn clear(self) -> OwdUpdate
-        ensures { result ≡ clear_answer self }
+    #[tactic(auto, unfolding(crate::specs::Owd::clear_answer, refusals::specs::Questions::first_no, refusals::specs::Questions::asked, refusals::specs::Answers::admitted, refusals::specs::Answers::settled))]
+    pub fn clear(self) -> Result<Self, Refused<Self>>
+        ensures { result ≡ settled (clear_answer self) }
     {
         let mut q = Questions::all_yes();
         q.state = self.keeps_rule();
-        let refusal = q.first_no();
-        if refusal == 0 {
-            OwdUpdate {
-                refusal,
-                state: self.clear_unchecked(),
-            }
-        } else {
-            OwdUpdate {
-                refusal,
-                state: self,
-            }
-        }
+        q.admit(self)?;
+        Ok(self.clear_unchecked())
     }
 
     // The slot for the next pair: after the newest, and the oldest's where the window is full.
@@ -140,13 +107,17 @@ impl OwdTrendDetector {
     fn grown(self) -> Self
         ensures { result ≡ grown self }
     {
-        let mut s = self;
         if self.count < self.capacity {
-            s.count = self.count + 1;
-            return s;
+            Self {
+                count: self.count + 1,
+                ..self
+            }
+        } else {
+            Self {
+                first: onward(self.capacity, self.first, 1),
+                ..self
+            }
         }
-        s.first = onward(self.capacity, self.first, 1);
-        s
     }
 
     // `push` for a record that has asked its questions: one slot of each buffer is set.
@@ -162,15 +133,21 @@ impl OwdTrendDetector {
         ensures delays { delays.new ≡ slice_set delays.old (free self) owd_us }
     {
         let slot = self.free();
-        put_time(times, slot, at_ms);
-        put_delay(delays, slot, owd_us);
+        put(times, slot, at_ms);
+        put(delays, slot, owd_us);
         self.grown()
     }
 
     // Add a pair: the receive time in ms and the delay in µs, both from a fixed reference.
-    #[tactic(auto, unfolding(crate::specs::Owd::push_answer, crate::specs::Owd::push_refusal, crate::specs::Owd::stored, refusals::specs::Questions::first_no, refusals::specs::Questions::asked))]
-    pub fn push(self, times: &mut [u32], delays: &mut [i64], at_ms: u32, owd_us: i64) -> OwdUpdate
-        ensures answer { result ≡ push_answer self times.old delays.old owd_us }
+    #[tactic(auto, unfolding(crate::specs::Owd::push_answer, crate::specs::Owd::push_refusal, crate::specs::Owd::stored, refusals::specs::Questions::first_no, refusals::specs::Questions::asked, refusals::specs::Answers::admitted, refusals::specs::Answers::settled))]
+    pub fn push(
+        self,
+        times: &mut [u32],
+        delays: &mut [i64],
+        at_ms: u32,
+        owd_us: i64,
+    ) -> Result<Self, Refused<Self>>
+        ensures answer { result ≡ settled (push_answer self times.old delays.old owd_us) }
         ensures times { times.new ≡ stored (push_refusal self times.old delays.old owd_us) self at_ms times.old }
         ensures delays { delays.new ≡ stored (push_refusal self times.old delays.old owd_us) self owd_us delays.old }
     {
@@ -178,18 +155,8 @@ impl OwdTrendDetector {
         q.state = self.keeps_rule();
         q.windows = self.windows_ok(times.len(), delays.len());
         q.delay_samples = refusals::ranges::delay_ok(owd_us);
-        let refusal = q.first_no();
-        if refusal == 0 {
-            OwdUpdate {
-                refusal,
-                state: self.push_unchecked(times, delays, at_ms, owd_us),
-            }
-        } else {
-            OwdUpdate {
-                refusal,
-                state: self,
-            }
-        }
+        q.admit(self)?;
+        Ok(self.push_unchecked(times, delays, at_ms, owd_us))
     }
 
     // Where the run of live slots from `first` on ends: at the newest pair or at the buffers' end.
@@ -197,29 +164,20 @@ impl OwdTrendDetector {
         requires { Rule self }
         ensures { result ≡ min (self.first + self.count) self.capacity }
     {
-        let end = self.first + self.count;
-        if end < self.capacity {
-            end
-        } else {
-            self.capacity
-        }
+        (self.first + self.count).min(self.capacity)
     }
 
     // The sums over the window, in two straight runs. The Rust's `sum` starts from −0.0, which gives the same sums of casts.
-    fn window_sums(self, times: &[u32], delays: &[i64]) -> Sums
+    fn window_sums(self, times: &[u32], delays: &[i64]) -> Result<Sums, Refusal>
         requires { Lent self times.now delays.now }
-        ensures { Summed zero_float zero_float true (window self times.now delays.now) result.x result.y result.delays_ok }
+        ensures { result ≡ summed zero_float zero_float (window self times.now delays.now) }
     {
         let first = self.first;
         let stop = self.stop();
         let rest = first + self.count - stop;
-        let none = Sums {
-            x: 0.0,
-            y: 0.0,
-            delays_ok: true,
-        };
-        let run = crate::passes::sums_over(times, delays, first, stop, none);
-        crate::passes::sums_over(times, delays, 0, rest, run)
+        let none = Sums { x: 0.0, y: 0.0 };
+        let run = sums_over(&times[first..stop], &delays[first..stop], none)?;
+        sums_over(&times[..rest], &delays[..rest], run)
     }
 
     // The moments over the window, in two straight runs.
@@ -232,59 +190,51 @@ impl OwdTrendDetector {
         let stop = self.stop();
         let rest = first + self.count - stop;
         let none = Moments { num: 0.0, den: 0.0 };
-        let run = crate::passes::moments_over(times, delays, first, stop, mean_x, mean_y, none);
-        crate::passes::moments_over(times, delays, 0, rest, mean_x, mean_y, run)
+        let run = moments_over(
+            &times[first..stop],
+            &delays[first..stop],
+            mean_x,
+            mean_y,
+            none,
+        );
+        moments_over(&times[..rest], &delays[..rest], mean_x, mean_y, run)
     }
 
     // The slope about the means that the sums give; 0 below f64::EPSILON. The Rust's clamp before its cast changes nothing.
-    fn trend_from(self, times: &[u32], delays: &[i64], sum_x: f64, sum_y: f64) -> i32
+    fn trend_from(self, times: &[u32], delays: &[i64], sums: Sums) -> i32
         requires { Lent self times.now delays.now × (samples_ok (window self times.now delays.now) ≡ true) }
-        ensures { result ≡ trend_from sum_x sum_y (window self times.now delays.now) }
+        ensures { result ≡ trend_from sums.x sums.y (window self times.now delays.now) }
     {
         let n = self.count;
         if n < 2 {
             return 0;
         }
-        let n_f = std::num::nearest_u64_to_f64(n as u64);
-        let m = self.window_moments(times, delays, sum_x / n_f, sum_y / n_f);
-        if m.den < 2.220446049250313e-16 {
+        let n_f = n as f64;
+        let m = self.window_moments(times, delays, sums.x / n_f, sums.y / n_f);
+        if m.den < f64::EPSILON {
             return 0;
         }
         floats::to_i32(m.num / m.den * 1000.0)
     }
 
     // Question 5 of every live pair, then the trend.
-    #[tactic(auto, unfolding(crate::specs::OwdTrend::live_trend, crate::specs::OwdTrend::trend_of))]
-    fn live_trend(self, times: &[u32], delays: &[i64]) -> AnswerI32
+    #[tactic(auto, unfolding(crate::specs::OwdTrend::live_trend, crate::specs::OwdTrend::trend_of, crate::specs::Passes::summed, refusals::specs::Answers::answered))]
+    fn live_trend(self, times: &[u32], delays: &[i64]) -> Result<i32, Refusal>
         requires { Lent self times.now delays.now }
-        ensures { result ≡ live_trend (window self times.now delays.now) }
+        ensures { result ≡ told (live_trend (window self times.now delays.now)) }
     {
-        let s = self.window_sums(times, delays);
-        if s.delays_ok {
-            AnswerI32 {
-                refusal: 0,
-                value: self.trend_from(times, delays, s.x, s.y),
-            }
-        } else {
-            AnswerI32 {
-                refusal: 5,
-                value: 0,
-            }
-        }
+        let sums = self.window_sums(times, delays)?;
+        Ok(self.trend_from(times, delays, sums))
     }
 
     // The delay trend as a slope in µs per second: Σ(x − x̄)(y − ȳ) / Σ(x − x̄)², times 1000. 0 for fewer than two pairs, or where all came at one time.
-    pub fn trend_us_per_sec(self, times: &[u32], delays: &[i64]) -> AnswerI32
-        ensures { result ≡ trend_answer self times.now delays.now }
+    pub fn trend_us_per_sec(self, times: &[u32], delays: &[i64]) -> Result<i32, Refusal>
+        ensures { result ≡ told (trend_answer self times.now delays.now) }
     {
         let mut q = Questions::all_yes();
         q.state = self.keeps_rule();
         q.windows = self.windows_ok(times.len(), delays.len());
-        let refusal = q.first_no();
-        if refusal == 0 {
-            self.live_trend(times, delays)
-        } else {
-            AnswerI32 { refusal, value: 0 }
-        }
+        q.first_no()?;
+        self.live_trend(times, delays)
     }
 }

@@ -1,28 +1,22 @@
 // SRTT estimator (Jacobson, RFC 6298, section 2).
 
 ghost use Rattle.std.specs.Prelude.{◌≡◌};
+ghost use Rattle.refusals.specs.Answers.{passed, settled, told};
 ghost use Rattle.algorithms.specs.Srtt.{keeps_the_rule, refusal_of, fresh, stepped, update_of, srtt_us_of, rttvar_us_of, initialized_of};
 
-use numbers::signs::{signed, unsigned};
+use numbers::signs::unsigned;
 use numbers::{rttvar_step, srtt_step};
-use refusals::answer::{AnswerBool, AnswerI64};
 use refusals::questions::Questions;
 use refusals::ranges::round_trip_ok;
+use refusals::refusal::{Refusal, Refused};
 
 // Smoothed round trip and its variation, in whole µs.
 #[derive(Clone, Copy)]
 pub struct SrttEstimator {
     pub srtt_us: i64,
     pub rttvar_us: i64,
-    // The first sample has come.
+    // The first sample has come. A flag beside the numbers and no Option: a call hands back, and replay prints, what they hold where it is off too.
     pub initialized: bool,
-}
-
-// An estimator after a call that may refuse.
-#[derive(Clone, Copy)]
-pub struct SrttUpdate {
-    pub refusal: u8,
-    pub state: SrttEstimator,
 }
 
 impl SrttEstimator {
@@ -36,24 +30,17 @@ impl SrttEstimator {
         }
     }
 
-    pub fn default() -> SrttEstimator
-        ensures { result ≡ fresh }
-    {
-        SrttEstimator::new()
-    }
-
     #[tactic(auto, unfolding(crate::specs::Srtt::keeps_the_rule))]
     pub fn keeps_rule(self) -> bool
         ensures { result ≡ keeps_the_rule self }
     {
-        let smoothed = round_trip_ok(self.srtt_us);
-        let variation = round_trip_ok(self.rttvar_us);
-        smoothed & variation
+        round_trip_ok(self.srtt_us) & round_trip_ok(self.rttvar_us)
     }
 
+    // Question 1 alone: ewma.rt says why each record has these lines.
     #[tactic(auto, unfolding(crate::specs::Srtt::refusal_of, refusals::specs::Questions::first_no, refusals::specs::Questions::asked))]
-    fn refusal(self) -> u8
-        ensures { result ≡ refusal_of self }
+    fn ask(self) -> Result<(), Refusal>
+        ensures { result ≡ passed (refusal_of self) }
     {
         let mut q = Questions::all_yes();
         q.state = self.keeps_rule();
@@ -72,54 +59,61 @@ impl SrttEstimator {
             let next_srtt = srtt_step(srtt, rtt);
             let next_rttvar = rttvar_step(rttvar, srtt, rtt);
             SrttEstimator {
-                srtt_us: signed(next_srtt),
-                rttvar_us: signed(next_rttvar),
+                srtt_us: next_srtt.cast_signed(),
+                rttvar_us: next_rttvar.cast_signed(),
                 initialized: true,
             }
         } else {
             SrttEstimator {
-                srtt_us: signed(rtt),
-                rttvar_us: signed(rtt / 2),
+                srtt_us: rtt.cast_signed(),
+                rttvar_us: (rtt / 2).cast_signed(),
                 initialized: true,
             }
         }
     }
 
     // Feeds a round trip in µs.
-    #[tactic(auto, unfolding(crate::specs::Srtt::update_of, crate::specs::Srtt::update_refusal, refusals::specs::Questions::first_no, refusals::specs::Questions::asked))]
-    pub fn update(self, rtt_us: i64) -> SrttUpdate
-        ensures { result ≡ update_of self rtt_us }
+    #[tactic(auto, unfolding(crate::specs::Srtt::update_of, crate::specs::Srtt::update_refusal, refusals::specs::Questions::first_no, refusals::specs::Questions::asked, refusals::specs::Answers::admitted, refusals::specs::Answers::settled))]
+    pub fn update(self, rtt_us: i64) -> Result<SrttEstimator, Refused<SrttEstimator>>
+        ensures { result ≡ settled (update_of self rtt_us) }
     {
         let mut q = Questions::all_yes();
         q.state = self.keeps_rule();
         q.round_trip = round_trip_ok(rtt_us);
-        let refusal = q.first_no();
-        if refusal == 0 {
-            let state = self.update_unchecked(rtt_us);
-            SrttUpdate { refusal, state }
-        } else {
-            SrttUpdate {
-                refusal,
-                state: self,
-            }
-        }
+        q.admit(self)?;
+        Ok(self.update_unchecked(rtt_us))
     }
 
-    pub fn srtt_us(self) -> AnswerI64
-        ensures { result ≡ srtt_us_of self }
+    #[tactic(auto, unfolding(refusals::specs::Answers::answered, refusals::specs::Answers::answer))]
+    pub fn srtt_us(self) -> Result<i64, Refusal>
+        ensures { result ≡ told (srtt_us_of self) }
     {
-        AnswerI64::of(self.refusal(), self.srtt_us)
+        self.ask()?;
+        Ok(self.srtt_us)
     }
 
-    pub fn rttvar_us(self) -> AnswerI64
-        ensures { result ≡ rttvar_us_of self }
+    #[tactic(auto, unfolding(refusals::specs::Answers::answered, refusals::specs::Answers::answer))]
+    pub fn rttvar_us(self) -> Result<i64, Refusal>
+        ensures { result ≡ told (rttvar_us_of self) }
     {
-        AnswerI64::of(self.refusal(), self.rttvar_us)
+        self.ask()?;
+        Ok(self.rttvar_us)
     }
 
-    pub fn initialized(self) -> AnswerBool
-        ensures { result ≡ initialized_of self }
+    #[tactic(auto, unfolding(refusals::specs::Answers::answered, refusals::specs::Answers::answer))]
+    pub fn initialized(self) -> Result<bool, Refusal>
+        ensures { result ≡ told (initialized_of self) }
     {
-        AnswerBool::of(self.refusal(), self.initialized)
+        self.ask()?;
+        Ok(self.initialized)
+    }
+}
+
+// No derive: `default` is `new`, whose definition is its law.
+impl Default for SrttEstimator {
+    ghost is_default = { λ x. x ≡ fresh };
+
+    fn default() -> SrttEstimator {
+        SrttEstimator::new()
     }
 }

@@ -1,46 +1,9 @@
-// One turn of the loop. Each turn draws a random number, stores a byte of it in the payload, makes the call, and adds a byte of the output at a place
-// that the number picks: so no call can be left out or moved out of the loop.
-use numbers::signs::{bits32, signed32};
+// Calls of `wire`. Each turn stores a byte of its random number in the payload, makes the call, and adds a byte of the output at a place that the number picks: so
+// no call can be left out or moved out of the loop.
+use crate::table::{at, picked, refusal_of, store, u16_of, u32_of};
 use wire::path_mtu::PathMtuNotification;
 use wire::receiver_report::ReceiverReport;
 use wire::sender_report::SenderReport;
-
-// The first random number.
-pub const START: u64 = 88172645463325252;
-
-// The last random number, and the checksum so far.
-#[derive(Clone, Copy)]
-pub struct Progress {
-    pub random: u64,
-    pub sum: u64,
-}
-
-// Marsaglia's xorshift.
-pub fn next(x: u64) -> u64 {
-    let a = x ^ (x << 13);
-    let b = a ^ (a >> 7);
-    b ^ (b << 17)
-}
-
-pub fn u32_of(x: u64) -> u32 {
-    (x % 4294967296) as u32
-}
-
-pub fn u16_of(x: u64) -> u16 {
-    (x % 65536) as u16
-}
-
-pub fn wide(x: u32) -> u64 {
-    x as u64
-}
-
-pub fn wide_u16(x: u16) -> u64 {
-    x as u64
-}
-
-fn wide_u8(x: u8) -> u64 {
-    x as u64
-}
 
 fn sender_of(x: u64) -> SenderReport {
     SenderReport {
@@ -65,7 +28,7 @@ fn receiver_of(x: u64) -> ReceiverReport {
         mean_burst_loss: u16_of(x ^ 6),
         jitter: u32_of(x ^ 7),
         ecn_ce_count: u32_of(x ^ 8),
-        owd_trend: signed32(u32_of(x ^ 9)),
+        owd_trend: u32_of(x ^ 9).cast_signed(),
         burst_loss_count: u32_of(x ^ 10),
         cumulative_reorder_count: u32_of(x ^ 11),
         interval_packets_recv: u32_of(x ^ 12),
@@ -74,50 +37,40 @@ fn receiver_of(x: u64) -> ReceiverReport {
 }
 
 pub fn sender_sum(r: SenderReport) -> u64 {
-    let counters = r.interval_start_counter ^ r.interval_end_counter;
-    let times = wide(r.interval_start_timestamp ^ r.interval_end_timestamp ^ r.interval_bytes_sent);
-    counters ^ times ^ r.cumulative_packets_sent ^ r.cumulative_bytes_sent
+    let words = r.interval_start_timestamp ^ r.interval_end_timestamp ^ r.interval_bytes_sent;
+    r.interval_start_counter
+        ^ r.interval_end_counter
+        ^ u64::from(words)
+        ^ r.cumulative_packets_sent
+        ^ r.cumulative_bytes_sent
 }
 
 pub fn receiver_sum(r: ReceiverReport) -> u64 {
-    let counts = r.highest_counter ^ r.cumulative_packets_recv ^ r.cumulative_bytes_recv;
-    let bursts = wide_u16(r.dwell_time ^ r.max_burst_loss ^ r.mean_burst_loss);
-    let delays = wide(
-        r.timestamp_echo ^ r.jitter ^ r.ecn_ce_count ^ bits32(r.owd_trend) ^ r.burst_loss_count,
-    );
-    let intervals = wide(
-        r.cumulative_reorder_count ^ r.interval_packets_recv ^ r.interval_bytes_recv,
-    );
-    counts ^ bursts ^ delays ^ intervals
-}
-
-fn decode_sender(payload: &[u8]) -> u64 {
-    let d = SenderReport::decode(payload);
-    let report = d.report;
-    sender_sum(report)
-}
-
-fn decode_receiver(payload: &[u8]) -> u64 {
-    let d = ReceiverReport::decode(payload);
-    let report = d.report;
-    receiver_sum(report)
-}
-
-fn decode_path_mtu(payload: &[u8]) -> u64 {
-    let d = PathMtuNotification::decode(payload);
-    let p = d.notification;
-    p.path_mtu as u64
+    let halves = r.dwell_time ^ r.max_burst_loss ^ r.mean_burst_loss;
+    // Two sums of words and not one: one is 2 instructions more.
+    let delays = r.timestamp_echo
+        ^ r.jitter
+        ^ r.ecn_ce_count
+        ^ r.owd_trend.cast_unsigned()
+        ^ r.burst_loss_count;
+    let intervals = r.cumulative_reorder_count ^ r.interval_packets_recv ^ r.interval_bytes_recv;
+    r.highest_counter
+        ^ r.cumulative_packets_recv
+        ^ r.cumulative_bytes_recv
+        ^ u64::from(halves)
+        ^ u64::from(delays)
+        ^ u64::from(intervals)
 }
 
 // What the call adds to the checksum beside the byte of the output.
 fn called(call: u64, x: u64, payload: &[u8], out: &mut [u8]) -> u64 {
     match call {
-        201 => sender_of(x).encode(out) as u64,
-        202 => decode_sender(payload),
-        203 => receiver_of(x).encode(out) as u64,
-        204 => decode_receiver(payload),
-        206 => PathMtuNotification::new(u16_of(x)).encode(out) as u64,
-        207 => decode_path_mtu(payload),
+        201 => refusal_of(sender_of(x).encode(out)),
+        202 => SenderReport::decode(payload).map_or(0, sender_sum),
+        203 => refusal_of(receiver_of(x).encode(out)),
+        204 => ReceiverReport::decode(payload).map_or(0, receiver_sum),
+        206 => refusal_of(PathMtuNotification::new(u16_of(x)).encode(out)),
+        207 => PathMtuNotification::decode(payload).map_or(0, |p| u64::from(p.path_mtu)),
         _ => 0,
     }
 }
@@ -131,32 +84,8 @@ fn written(call: u64) -> u64 {
     }
 }
 
-fn byte_at(s: &[u8], i: usize) -> u64 {
-    if i < s.len() {
-        return wide_u8(s[i]);
-    }
-    0
-}
-
-pub fn store(s: &mut [u8], i: usize, b: u8) {
-    if i < s.len() {
-        s[i] = b;
-    }
-}
-
-// The place below n that the number picks.
-pub fn picked(x: u64, n: u64) -> usize {
-    if n == 0 {
-        return 0;
-    }
-    (x % n) as usize
-}
-
-pub fn turn(call: u64, t: Progress, payload: &mut [u8], out: &mut [u8]) -> Progress {
-    let x = next(t.random);
+pub fn turn(call: u64, x: u64, payload: &mut [u8], out: &mut [u8]) -> u64 {
     store(payload, picked(x, 67), (x >> 56) as u8);
     let part = called(call, x, payload, out);
-    let byte = byte_at(out, picked(x, written(call)));
-    let sum = std::num::wrapping_add_u64(std::num::wrapping_add_u64(t.sum, part), byte);
-    Progress { random: x, sum }
+    part.wrapping_add(u64::from(at(out, picked(x, written(call)))))
 }

@@ -1,167 +1,102 @@
-// One turn of the loop over a figure. Each turn draws a random number, stores a part of it in a table of numbers and a pair of it in the windows, and makes
+// Calls of a figure. Each turn stores a part of its random number in a table of numbers and a pair of it in the windows, and makes
 // the call on a state from the table: so the compiler knows no state's range.
-use crate::calls::{Progress, next, picked, u32_of};
-use crate::table::store_number;
+use crate::table::{SCALE, at, picked, settled, store_drawn, u32_of};
 use algorithms::etx;
 use algorithms::ewma::DualEwma;
 use algorithms::jitter::JitterEstimator;
 use algorithms::owd::OwdTrendDetector;
-use algorithms::spin::{SpinBitState, SpinObserved};
+use algorithms::spin::SpinBitState;
 use algorithms::srtt::SrttEstimator;
-use numbers::signs::{bits32, signed, signed32, unsigned};
-use refusals::option::OptionU64;
 
-pub fn lent_times(s: &mut [u32], n: usize) -> &mut [u32] {
-    if n <= s.len() {
-        return &mut s[0..n];
+// A random number and the table that it picks from.
+#[derive(Clone, Copy)]
+struct Drawn<'a> {
+    x: u64,
+    numbers: &'a [u64],
+}
+
+impl<'a> Drawn<'a> {
+    // The number that the bits of x from `shift` on pick.
+    fn number(self, shift: u64) -> u64 {
+        at(self.numbers, picked(self.x >> (shift % 64), 64))
     }
-    s
-}
 
-pub fn lent_delays(s: &mut [i64], n: usize) -> &mut [i64] {
-    if n <= s.len() {
-        return &mut s[0..n];
+    fn signed(self, shift: u64) -> i64 {
+        self.number(shift).cast_signed()
     }
-    s
-}
 
-pub fn store_time(s: &mut [u32], i: usize, x: u32) {
-    if i < s.len() {
-        s[i] = x;
+    fn float(self, shift: u64) -> f64 {
+        f64::from(u32_of(self.number(shift)))
     }
-}
 
-pub fn store_delay(s: &mut [i64], i: usize, x: i64) {
-    if i < s.len() {
-        s[i] = x;
+    fn ratio(self, shift: u64) -> f64 {
+        self.float(shift) * SCALE
     }
-}
 
-// The number that the bits of x from `shift` on pick.
-fn number(s: &[u64], x: u64, shift: u64) -> u64 {
-    let i = picked(x >> (shift % 64), 64);
-    if i < s.len() {
-        return s[i];
+    fn bit(self, shift: u64) -> bool {
+        (self.x >> (shift % 64)) % 2 == 1
     }
-    0
-}
 
-fn float(s: &[u64], x: u64, shift: u64) -> f64 {
-    u32_of(number(s, x, shift)) as f64
-}
-
-pub fn bits64(z: i64) -> u64 {
-    if 0 <= z {
-        return unsigned(z);
+    fn jitter(self) -> JitterEstimator {
+        JitterEstimator {
+            jitter_q4: self.signed(8),
+        }
     }
-    u64::MAX - unsigned(!z)
-}
 
-pub fn flag(b: bool) -> u64 {
-    if b { 1 } else { 0 }
-}
-
-fn bit(x: u64, shift: u64) -> bool {
-    (x >> (shift % 64)) % 2 == 1
-}
-
-fn jitter_of(s: &[u64], x: u64) -> JitterEstimator {
-    JitterEstimator {
-        jitter_q4: signed(number(s, x, 8)),
+    fn srtt(self) -> SrttEstimator {
+        SrttEstimator {
+            srtt_us: self.signed(8),
+            rttvar_us: self.signed(16),
+            initialized: true,
+        }
     }
-}
 
-fn jitter(s: &[u64], x: u64) -> u64 {
-    let u = jitter_of(s, x).update(signed32(u32_of(x)));
-    let after = u.state;
-    bits64(after.jitter_q4)
-}
+    fn ewma(self) -> DualEwma {
+        DualEwma {
+            short: self.float(8),
+            long: self.float(16),
+            initialized: true,
+        }
+    }
 
-fn jitter_unchecked(s: &[u64], x: u64) -> u64 {
-    let after = jitter_of(s, x).update_unchecked(signed32(u32_of(x)));
-    bits64(after.jitter_q4)
-}
-
-fn srtt_of(s: &[u64], x: u64) -> SrttEstimator {
-    SrttEstimator {
-        srtt_us: signed(number(s, x, 8)),
-        rttvar_us: signed(number(s, x, 16)),
-        initialized: true,
+    fn spin(self) -> SpinBitState {
+        SpinBitState {
+            is_initiator: self.bit(1),
+            current_value: self.bit(2),
+            highest_counter_for_spin: self.number(16),
+            last_edge_ms: Some(self.number(8)),
+        }
     }
 }
 
-fn srtt(s: &[u64], x: u64) -> u64 {
-    let u = srtt_of(s, x).update(signed(number(s, x, 24)));
-    let after = u.state;
-    bits64(after.srtt_us) ^ bits64(after.rttvar_us)
+fn jitter_sum(after: JitterEstimator) -> u64 {
+    after.jitter_q4.cast_unsigned()
 }
 
-fn srtt_unchecked(s: &[u64], x: u64) -> u64 {
-    let after = srtt_of(s, x).update_unchecked(signed(number(s, x, 24)));
-    bits64(after.srtt_us) ^ bits64(after.rttvar_us)
+fn srtt_sum(after: SrttEstimator) -> u64 {
+    after.srtt_us.cast_unsigned() ^ after.rttvar_us.cast_unsigned()
 }
 
-fn ewma_of(s: &[u64], x: u64) -> DualEwma {
-    DualEwma {
-        short: float(s, x, 8),
-        long: float(s, x, 16),
-        initialized: true,
+fn ewma_sum(after: DualEwma) -> u64 {
+    u64::from(after.short < after.long)
+}
+
+fn spin_sum(after: SpinBitState, rtt_ms: Option<u64>) -> u64 {
+    rtt_ms.unwrap_or(0) ^ after.highest_counter_for_spin
+}
+
+fn rx_observe(d: Drawn) -> u64 {
+    match d.spin().rx_observe(d.bit(3), d.number(32), d.number(24)) {
+        Ok((after, rtt_ms)) => spin_sum(after, rtt_ms),
+        Err(refused) => spin_sum(refused.state, None),
     }
 }
 
-fn ewma(s: &[u64], x: u64) -> u64 {
-    let u = ewma_of(s, x).update(float(s, x, 24));
-    let after = u.state;
-    flag(after.short < after.long)
-}
-
-fn ewma_unchecked(s: &[u64], x: u64) -> u64 {
-    let after = ewma_of(s, x).update_unchecked(float(s, x, 24));
-    flag(after.short < after.long)
-}
-
-fn ratio(s: &[u64], x: u64, shift: u64) -> f64 {
-    float(s, x, shift) * 0.00000000023283064365386962890625
-}
-
-fn compute_etx(s: &[u64], x: u64) -> u64 {
-    let a = etx::compute_etx(ratio(s, x, 8), ratio(s, x, 16));
-    flag(a.value < 2.0)
-}
-
-fn compute_etx_unchecked(s: &[u64], x: u64) -> u64 {
-    flag(etx::compute_etx_unchecked(ratio(s, x, 8), ratio(s, x, 16)) < 2.0)
-}
-
-fn since(n: OptionU64) -> u64 {
-    match n {
-        OptionU64::None => 0,
-        OptionU64::Some(ms) => ms,
-    }
-}
-
-fn spin_of(s: &[u64], x: u64) -> SpinBitState {
-    let last_edge_ms = OptionU64::Some(number(s, x, 8));
-    SpinBitState {
-        is_initiator: bit(x, 1),
-        current_value: bit(x, 2),
-        highest_counter_for_spin: number(s, x, 16),
-        last_edge_ms,
-    }
-}
-
-fn observed(o: SpinObserved) -> u64 {
-    let after = o.state;
-    let rtt_ms = o.rtt_ms;
-    since(rtt_ms) ^ after.highest_counter_for_spin
-}
-
-fn rx_observe(s: &[u64], x: u64) -> u64 {
-    observed(spin_of(s, x).rx_observe(bit(x, 3), number(s, x, 32), number(s, x, 24)))
-}
-
-fn rx_observe_unchecked(s: &[u64], x: u64) -> u64 {
-    observed(spin_of(s, x).rx_observe_unchecked(bit(x, 3), number(s, x, 32), number(s, x, 24)))
+fn rx_observe_unchecked(d: Drawn) -> u64 {
+    let seen = d
+        .spin()
+        .rx_observe_unchecked(d.bit(3), d.number(32), d.number(24));
+    spin_sum(seen.state, seen.rtt_ms)
 }
 
 // The trend of a full window whose oldest pair stands a third from its start.
@@ -172,42 +107,28 @@ fn trend(times: &[u32], delays: &[i64]) -> u64 {
         count: capacity,
         first: capacity / 3,
     };
-    let a = detector.trend_us_per_sec(times, delays);
-    bits32(a.value) as u64
+    let trend = detector.trend_us_per_sec(times, delays).unwrap_or(0);
+    u64::from(trend.cast_unsigned())
 }
 
-fn called(call: u64, x: u64, numbers: &[u64], times: &[u32], delays: &[i64]) -> u64 {
+fn called(call: u64, d: Drawn, times: &[u32], delays: &[i64]) -> u64 {
     match call {
-        303 => jitter(numbers, x),
-        306 => jitter_unchecked(numbers, x),
-        313 => srtt(numbers, x),
-        318 => srtt_unchecked(numbers, x),
-        323 => ewma(numbers, x),
-        328 => ewma_unchecked(numbers, x),
+        303 => jitter_sum(settled(d.jitter().update(u32_of(d.x).cast_signed()))),
+        306 => jitter_sum(d.jitter().update_unchecked(u32_of(d.x).cast_signed())),
+        313 => srtt_sum(settled(d.srtt().update(d.signed(24)))),
+        318 => srtt_sum(d.srtt().update_unchecked(d.signed(24))),
+        323 => ewma_sum(settled(d.ewma().update(d.float(24)))),
+        328 => ewma_sum(d.ewma().update_unchecked(d.float(24))),
         334 | 1334 => trend(times, delays),
-        341 => compute_etx(numbers, x),
-        343 => compute_etx_unchecked(numbers, x),
-        355 => rx_observe(numbers, x),
-        357 => rx_observe_unchecked(numbers, x),
-        _ => number(numbers, x, 8),
+        341 => u64::from(etx::compute_etx(d.ratio(8), d.ratio(16)).unwrap_or(0.0) < 2.0),
+        343 => u64::from(etx::compute_etx_unchecked(d.ratio(8), d.ratio(16)) < 2.0),
+        355 => rx_observe(d),
+        357 => rx_observe_unchecked(d),
+        _ => d.number(8),
     }
 }
 
-pub fn turn(
-    call: u64,
-    t: Progress,
-    numbers: &mut [u64],
-    times: &mut [u32],
-    delays: &mut [i64],
-) -> Progress {
-    let x = next(t.random);
-    store_number(numbers, picked(x, 64), x >> 29);
-    let slot = picked(x, times.len() as u64);
-    store_time(times, slot, u32_of(x));
-    store_delay(delays, slot, signed(x >> 24));
-    let part = called(call, x, numbers, times, delays);
-    Progress {
-        random: x,
-        sum: std::num::wrapping_add_u64(t.sum, part),
-    }
+pub fn turn(call: u64, x: u64, numbers: &mut [u64], times: &mut [u32], delays: &mut [i64]) -> u64 {
+    store_drawn(x, numbers, times, delays);
+    called(call, Drawn { x, numbers }, times, delays)
 }

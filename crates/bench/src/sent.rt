@@ -1,25 +1,36 @@
-// The loop over a sender's record: eight peers' records in memory, of which the random number picks one, and the call on it.
+// Calls on a sender's record: eight peers' records in memory, of which the random number picks one.
 ghost use Rattle.std.specs.Prelude.{◌<◌};
 
-use crate::calls::{START, next, sender_sum, u32_of, wide};
-use crate::estimators::flag;
+use crate::calls::sender_sum;
+use crate::table::{settled, u32_of};
 use sender::SenderState;
-use sender::reports::SenderReportBuilt;
 
 fn state_sum(r: SenderState) -> u64 {
-    let counts = r.cumulative_packets_sent ^ r.cumulative_bytes_sent ^ r.last_counter;
-    let start = r.interval_start_counter ^ wide(r.interval_start_timestamp);
-    let words = r.interval_bytes_sent
+    let words = r.interval_start_timestamp
+        ^ r.interval_bytes_sent
         ^ r.last_timestamp
         ^ r.consecutive_send_failures
         ^ r.srtt_sample_count;
-    let times = r.last_report_ms ^ r.report_interval_ms;
-    counts ^ start ^ wide(words) ^ times ^ flag(r.interval_has_data) ^ flag(r.has_last_report)
+    r.cumulative_packets_sent
+        ^ r.cumulative_bytes_sent
+        ^ r.last_counter
+        ^ r.interval_start_counter
+        ^ u64::from(words)
+        ^ r.last_report_ms
+        ^ r.report_interval_ms
+        ^ u64::from(r.interval_has_data)
+        ^ u64::from(r.has_last_report)
+}
+
+pub fn states_sum(states: &[SenderState]) -> u64 {
+    states
+        .iter()
+        .fold(0, |sum, state| sum.wrapping_add(state_sum(*state)))
 }
 
 // A frame's size, which the compiler cannot know to be in range: it is 2^32 once in 2^32 turns.
 fn size_of(x: u64) -> usize {
-    (x % 4294967297) as usize
+    (x % ((1 << 32) + 1)) as usize
 }
 
 // Which peer's record a turn is about.
@@ -29,48 +40,29 @@ fn slot(x: u64) -> usize
     (x % 8) as usize
 }
 
-fn sent_and_built(state: SenderState, x: u64, bytes: usize) -> SenderReportBuilt {
-    let sent = state.record_sent(x, u32_of(x), bytes);
-    let after = sent.state;
-    after.build_report(x >> 20)
+// A frame sent, and a report built: its sum. Where the report is refused the record stays.
+fn sent_and_built(state: &mut SenderState, x: u64, bytes: usize) -> u64 {
+    let sent = settled(state.record_sent(x, u32_of(x), bytes));
+    let Ok((after, report)) = sent.build_report(x >> 20) else {
+        return 0;
+    };
+    *state = after;
+    report.map_or(0, |report| sender_sum(report) ^ 1)
 }
 
 // 400, the loop alone; 404, a frame sent; 405, a frame sent and a report built.
-pub fn sum(call: u64, count: u64) -> u64 {
-    let new = SenderState::new();
-    let mut states = [new; 8];
-    let mut x = START;
-    let mut sum = 0;
-    let mut left = count;
-    while left > 0 {
-        x = next(x);
-        let bytes = size_of(x);
-        sum = std::num::wrapping_add_u64(sum, bytes as u64);
-        let i = slot(x);
-        if call == 404 {
-            let state = states[i];
-            let sent = state.record_sent(x, u32_of(x), bytes);
-            if sent.refusal == 0 {
-                let after = sent.state;
-                states[i] = after;
+pub fn turn(call: u64, x: u64, states: &mut [SenderState; 8]) -> u64 {
+    let bytes = size_of(x);
+    let state = &mut states[slot(x)];
+    let built = match call {
+        404 => {
+            if let Ok(after) = state.record_sent(x, u32_of(x), bytes) {
+                *state = after;
             }
+            0
         }
-        if call == 405 {
-            let state = states[i];
-            let built = sent_and_built(state, x, bytes);
-            if built.refusal == 0 {
-                let after = built.state;
-                states[i] = after;
-            }
-            let report = built.report;
-            sum = std::num::wrapping_add_u64(sum, sender_sum(report) ^ flag(built.some));
-        }
-        left -= 1;
-    }
-    let mut i = 0;
-    while i < 8 {
-        sum = std::num::wrapping_add_u64(sum, state_sum(states[i]));
-        i += 1;
-    }
-    sum
+        405 => sent_and_built(state, x, bytes),
+        _ => 0,
+    };
+    built.wrapping_add(bytes as u64)
 }

@@ -1,82 +1,90 @@
-// A record's fields as they stand in memory: numbers, or floats, one after the other from a place that the random number picks. The compiler knows nothing
-// of what is read, so it keeps every test of it.
-use crate::calls::{picked, u32_of};
-use refusals::option::{OptionU32, OptionU64};
+// What the loops have in common: the tables of numbers in memory, and a record's fields as they stand there, one after the other from a place that the random
+// number picks. The compiler knows nothing of what is read, so it keeps every test of it.
+use refusals::refusal::{Refusal, Refused};
 
-// Where a record begins, below 32.
-pub fn place(x: u64) -> usize {
-    picked(x >> 8, 32)
+// 2^-32.
+pub const SCALE: f64 = 1.0 / 4_294_967_296.0;
+
+// The low bits. A cast names its type, so there are two.
+pub fn u32_of(x: u64) -> u32 {
+    (x % (1 << 32)) as u32
 }
 
-// Number k of the record that begins at `from`. The numbers are below 2^35.
-pub fn at(s: &[u64], from: usize, k: usize) -> u64 {
-    let i = std::num::wrapping_add_usize(from, k);
+pub fn u16_of(x: u64) -> u16 {
+    (x % (1 << 16)) as u16
+}
+
+// The place below n that the number picks.
+pub fn picked(x: u64, n: u64) -> usize {
+    if n == 0 { 0 } else { (x % n) as usize }
+}
+
+pub fn at<T: Copy + Default>(s: &[T], i: usize) -> T {
+    s.get(i).copied().unwrap_or_default()
+}
+
+pub fn store<T: Copy>(s: &mut [T], i: usize, value: T) {
     if i < s.len() {
-        return s[i];
-    }
-    0
-}
-
-pub fn word_at(s: &[u64], from: usize, k: usize) -> u32 {
-    u32_of(at(s, from, k))
-}
-
-// A number that every record has: the shifted part is 0.
-pub fn held(s: &[u64], from: usize, k: usize, number: u64) -> u64 {
-    number ^ (at(s, from, k) >> 35)
-}
-
-// A flag that is set in every record.
-pub fn is_set(s: &[u64], from: usize, k: usize) -> bool {
-    at(s, from, k) >> 35 == 0
-}
-
-pub fn float_at(s: &[f64], from: usize, k: usize) -> f64 {
-    let i = std::num::wrapping_add_usize(from, k);
-    if i < s.len() {
-        return s[i];
-    }
-    0.0
-}
-
-pub fn option_of(there: bool, n: u64) -> OptionU64 {
-    if there {
-        OptionU64::Some(n)
-    } else {
-        OptionU64::None
+        s[i] = value;
     }
 }
 
-pub fn option_word(there: bool, n: u32) -> OptionU32 {
-    if there {
-        OptionU32::Some(n)
-    } else {
-        OptionU32::None
+// The number of the question that refuses, 0 where none does.
+pub fn refusal_of(answer: Result<(), Refusal>) -> u64 {
+    match answer {
+        Ok(()) => 0,
+        Err(refusal) => u64::from(u8::from(refusal)),
     }
 }
 
-pub fn option_sum(n: OptionU64) -> u64 {
-    match n {
-        OptionU64::None => 1,
-        OptionU64::Some(ms) => ms,
+// The record after a call: as given where it refuses.
+pub fn settled<S: Copy>(answer: Result<S, Refused<S>>) -> S {
+    answer.unwrap_or_else(|refused| refused.state)
+}
+
+// Stores a part of the random number in the table, where it stays below 2^35, and a pair of it in the windows. The three are no struct: the borrow checker does not
+// cover a call that is lent two of its fields and reads a third.
+pub fn store_drawn(x: u64, numbers: &mut [u64], times: &mut [u32], delays: &mut [i64]) {
+    store(numbers, picked(x, 64), x >> 29);
+    let slot = picked(x, times.len() as u64);
+    store(times, slot, u32_of(x));
+    store(delays, slot, (x >> 24).cast_signed());
+}
+
+// A record's fields.
+#[derive(Clone, Copy)]
+pub struct Fields<'a, T> {
+    pub all: &'a [T],
+    pub from: usize,
+}
+
+impl<'a, T: Copy + Default> Fields<'a, T> {
+    // Those of the record that the number picks, which begins below 32.
+    pub fn picked(all: &'a [T], x: u64) -> Fields<'a, T> {
+        Fields {
+            all,
+            from: picked(x >> 8, 32),
+        }
+    }
+
+    // Field k.
+    pub fn at(&self, k: usize) -> T {
+        at(self.all, self.from.wrapping_add(k))
     }
 }
 
-pub fn option_word_sum(n: OptionU32) -> u64 {
-    match n {
-        OptionU32::None => 1,
-        OptionU32::Some(ms) => ms as u64,
+impl<'a> Fields<'a, u64> {
+    pub fn word(&self, k: usize) -> u32 {
+        u32_of(self.at(k))
     }
-}
 
-pub fn store_number(s: &mut [u64], i: usize, x: u64) {
-    if i < s.len() {
-        s[i] = x;
+    // A number that every record has: the shifted part is 0.
+    pub fn held(&self, k: usize, number: u64) -> u64 {
+        number ^ (self.at(k) >> 35)
     }
-}
 
-pub fn store_float(s: &mut [f64], i: usize, x: f64) {
-    if i < s.len() {
-        s[i] = x;
+    // A flag that is set in every record.
+    pub fn is_set(&self, k: usize) -> bool {
+        self.at(k) >> 35 == 0
     }
 }

@@ -1,26 +1,16 @@
--- What a loop that stores the bytes of a number leaves.
-use Prim.Native.Nat.{ℕ, zero, suc, ◌+◌, ◌-◌, ◌/◌, ◌%◌, ◌≤◌, ◌<◌}
-use mathlib.Core.Path.{◌≡◌, sym, ◌∙◌}
-use mathlib.Core.List.{List, ◌++◌}
-use lib.ListN.{length, take, drop, set}
-use lib.Seq.{sets, sets-eq, paste, take-length}
-use native.Mathlib.Numerals.{add-one}
+-- The two answers of a store: the bytes in the place of the list's own, or the list as it was.
+use Prim.Native.Nat.{ℕ, ◌+◌, ◌-◌, ◌≤◌, ◌<◌}
+use mathlib.Core.Path.{◌≡◌, sym, ap, ◌∙◌}
+use mathlib.Core.List.{List, [], ◌∷◌, ◌++◌, append_assoc}
+use lib.ListN.{length, take, drop}
+use lib.Seq.{sets, sets-eq, drop-drop}
 use native.Mathlib.Omega.{arith}
 use borrow.Author.Tests.{le-leb, lt-leb}
+use borrow.Rule.Slice.PartMut.{put_mid}
+use Rattle.std.proofs.lemmas.List.{drop_all, take_all, append-nil}
 use Rattle.codec.specs.LittleEndian.{le_bytes, stored, with_field}
 use Rattle.codec.proofs.Widths.{length_bytes}
 
--- a turn of the loop, and its end
-pub turn : (n p y : ℕ) (b : List ℕ) → 0 < n → sets (set b p (y % 256)) (p + 1) (le_bytes (n - 1) (y / 256)) ≡ sets b p (le_bytes n y)
-unfolding le_bytes
-turn zero p y b h = absurd (omega arith)
-turn (suc n) p y b h = let e : suc n - 1 ≡ n = omega arith in rw (e, add-one)
-
-pub none_left : (n p y : ℕ) (b : List ℕ) → n ≡ 0 → sets b p (le_bytes n y) ≡ b
-unfolding le_bytes
-none_left n p y b e = rw e
-
--- ---- the two answers of a store
 pub stored_here : (b : List ℕ) (at : ℕ) (v : List ℕ) → length v ≤ length b - at → stored b at v ≡ take at b ++ v ++ drop (at + length v) b
 unfolding stored
 stored_here b at v h = simp (le-leb _ _ h)
@@ -29,6 +19,23 @@ pub stored_not : (b : List ℕ) (at : ℕ) (v : List ℕ) → length b - at < le
 unfolding stored
 stored_not b at v h = simp (lt-leb _ _ h)
 
+-- a part of the list is written over
+pub written_over : (b : List ℕ) (at : ℕ) (v : List ℕ) → at + length v ≤ length b → put_mid at (at + length v - at) b v ≡ stored b at v
+written_over b at v h =
+    let k : at + length v - at ≡ length v = omega arith in
+    let behind : drop (length v) (drop at b) ≡ drop (at + length v) b = drop-drop (length v) at b in
+    ap (λ (n : ℕ). put_mid at n b v) k
+    ∙ ap (λ (l : List ℕ). take at b ++ (v ++ l)) behind
+    ∙ sym (append_assoc (take at b) v (drop (at + length v) b))
+    ∙ sym (stored_here b at v (omega arith))
+
+-- no bytes change nothing, wherever they stand
+pub not_written : (b : List ℕ) (at : ℕ) (v : List ℕ) → length b < at + length v → b ≡ stored b at v
+not_written b at [] h =
+    sym (stored_here b at [] (omega arith) ∙ rw (take_all at b (omega arith), drop_all (at + 0) b (omega arith)) (append-nil (b ++ []) ∙ append-nil b))
+not_written b at (x ∷ v) h = sym (stored_not b at (x ∷ v) (omega arith))
+
+-- a field stored byte by byte is the field stored; and one that does not fit leaves the list
 pub with_field_here : (b : List ℕ) (at n x : ℕ) → 0 < n → n ≤ length b - at → sets b at (le_bytes n x) ≡ with_field b at n x
 unfolding with_field
 with_field_here b at n x p h =
@@ -38,7 +45,3 @@ with_field_here b at n x p h =
 pub with_field_not : (b : List ℕ) (at n x : ℕ) → length b - at < n → b ≡ with_field b at n x
 unfolding with_field
 with_field_not b at n x h = sym (stored_not b at (le_bytes n x) (omega (arith, length_bytes n x)))
-
--- a copy of all of v, made element by element
-pub copied : (b : List ℕ) (at : ℕ) (v : List ℕ) (n : ℕ) → n ≡ length v → length v ≤ length b - at → paste b at v n ≡ stored b at v
-copied b at v n e h = rw (e, take-length v) (sym (stored_here b at v h))

@@ -1,12 +1,13 @@
--- The bytes of a slice one by one: each times its weight, 256 to the power of its place, which the expression of every width adds up; and listed, as an array.
-use Prim.Native.Nat.{ℕ, zero, suc, ◌+◌, ◌*◌, ◌^◌, ◌≤◌}
-use mathlib.Core.Path.{◌≡◌, refl, ap, ◌∙◌}
+-- The library's bytes of a number, and the number of bytes: each byte times its weight, 256 to the power of its place.
+use Prim.Native.Nat.{ℕ, zero, suc, ◌+◌, ◌-◌, ◌*◌, ◌^◌, ◌≤◌, ◌<◌}
+use mathlib.Core.Path.{◌≡◌, refl, sym, ap, ap₂, ◌∙◌}
 use mathlib.Core.List.{List, [], ◌∷◌}
 use lib.ListN.{get_or, length, take, drop}
 use lib.Seq.{drop-cons}
 use native.Mathlib.Omega.{arith}
 use native.Mathlib.Numerals.{add-one}
-use native.Mathlib.Nat.{add-zero, pow-zero, pow-succ', mul_assoc}
+use native.Mathlib.Nat.{add-zero, pow-zero, pow-succ', mul_assoc, mul_comm}
+use Rattle.std.specs.Int.{Width, byte_worth, byte_len, sum_through, from_le_bytes}
 use Rattle.codec.specs.LittleEndian.{le_at}
 
 -- the n bytes from a position on, each times its weight
@@ -30,8 +31,16 @@ unfolding weighted le_at
 word s at zero = refl
 word s at (suc n) = ap (λ (x : ℕ). x + 256 ^ n * get_or s (at + n) 0) (word s at n) ∙ last_byte s at n
 
+-- the library's sum is the weighted one
+summed : (s : List ℕ) (k : ℕ) → sum_through (λ i. byte_worth i (get_or s i 0)) k ≡ weighted s 0 (suc k)
+unfolding weighted
+summed s zero = let p : 256 ^ 0 ≡ 1 = pow-zero 256 in rw p (omega arith)
+summed s (suc k) =
+    let e : 0 + suc k ≡ suc k = omega arith in
+    ap₂ ◌+◌ (summed s k) (rw e (mul_comm (get_or s (suc k) 0) (256 ^ suc k)))
+
 -- the n bytes from an offset to a position on
-unfoldable pub listed : List ℕ → ℕ → ℕ → ℕ → List ℕ
+unfoldable listed : List ℕ → ℕ → ℕ → ℕ → List ℕ
 listed s at i zero = []
 listed s at i (suc n) = get_or s (at + i) 0 ∷ listed s at (i + 1) n
 
@@ -55,11 +64,14 @@ taken_from s at i (suc n) h =
     let next : at + (i + 1) ≡ suc (at + i) = omega arith in
     rw (drop-cons s (at + i) 0 (omega arith)) (ap (λ (l : List ℕ). get_or s (at + i) 0 ∷ l) (rw next at (taken_from s at (i + 1) n (omega arith))))
 
--- ---- bytes taken out of a slice one by one: they read as they do there, and are a part of it
-pub handed : (s : List ℕ) (at n : ℕ) → le_at (get_or s at 0 ∷ listed s at 1 n) 0 (suc n) ≡ le_at s at (suc n)
-unfolding listed
-handed s at n = rw (add-zero at) at (from_offset s at 0 (suc n))
+-- a part of a slice reads as it does there
+pub part_reads : (s : List ℕ) (at n : ℕ) → at + n ≤ length s → le_at (take n (drop at s)) 0 n ≡ le_at s at n
+part_reads s at n h =
+    ap (λ (l : List ℕ). le_at l 0 n) (sym (rw (add-zero at) at (taken_from s at 0 n (omega (arith, add-zero at))))) ∙ rw (add-zero at) at (from_offset s at 0 n)
 
-pub taken : (s : List ℕ) (at n : ℕ) → at + suc n ≤ length s → get_or s at 0 ∷ listed s at 1 n ≡ take (suc n) (drop at s)
-unfolding listed
-taken s at n h = rw (add-zero at) at (taken_from s at 0 (suc n) (omega (arith, add-zero at)))
+-- THE LIBRARY'S NUMBER of bytes, over the widths
+pub number_of : (w : Width) (bytes : List ℕ) → 0 < byte_len w → from_le_bytes w bytes ≡ le_at bytes 0 (byte_len w)
+number_of w bytes h =
+    let k : ℕ = byte_len w - 1 in
+    let n : suc k ≡ byte_len w = omega arith in
+    summed bytes k ∙ word bytes 0 (suc k) ∙ ap (λ (x : ℕ). le_at bytes 0 x) n

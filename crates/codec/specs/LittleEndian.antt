@@ -1,6 +1,6 @@
 -- Little-endian fields (document 01, "Report bytes"): the number that n bytes from a position on make up, and a list with the bytes of a number in the
 -- place of its own. Definitions only.
-use Rattle.std.specs.Prelude.{ℕ, zero, suc, ◌+◌, ◌-◌, ◌*◌, ◌/◌, ◌%◌, cond, List, [], ◌∷◌, ◌++◌, length, get_or, take, drop, leb}
+use Rattle.std.specs.Prelude.{ℕ, zero, suc, ◌+◌, ◌-◌, ◌*◌, ◌/◌, ◌%◌, cond, List, [], ◌∷◌, ◌++◌, length, get_or, take, drop, leb, Option, None, Some}
 
 -- the least significant byte stands first
 unfoldable pub le_at : List ℕ → ℕ → ℕ → ℕ
@@ -15,6 +15,10 @@ le_bytes (suc n) x = (x % 256) ∷ le_bytes n (x / 256)
 -- a field of n bytes, 0 where it does not lie in the list whole
 unfoldable pub field_at : List ℕ → ℕ → ℕ → ℕ
 field_at s at n = cond (leb n (length s - at)) (le_at s at n) 0
+
+-- the n bytes from a position on, or none where they do not lie in the list whole
+unfoldable pub bytes_at : List ℕ → ℕ → ℕ → Option (List ℕ)
+bytes_at s at n = cond (leb (at + n) (length s)) (Some (take n (drop at s))) None
 
 -- other bytes in the place of a list's own, from a position on, or nothing where they do not fit
 unfoldable pub stored : List ℕ → ℕ → List ℕ → List ℕ

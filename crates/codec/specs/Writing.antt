@@ -2,11 +2,15 @@
 use Rattle.std.specs.Prelude.{ℕ, cond, List, length, leb}
 use Rattle.codec.specs.Reading.{within, place_after}
 use Rattle.codec.specs.declared.Place.{Place}
-use Rattle.codec.specs.declared.writer.Written.{Written}
 
 -- the first byte's place
 abbrev pub start : Place
 start = record { pos = 0 }
+
+-- a refusal's number, 0 for none, and the place after
+pub record Written : Type 0 where
+  pub refusal : ℕ
+  pub place : Place
 
 -- 0 where the buffer has room for n bytes, else 6; the writer begins at the start
 unfoldable pub room_for : List ℕ → ℕ → Written

@@ -1,152 +1,109 @@
 // Little-endian fields at a position of a slice. Every public function is total: a field that does not lie in the slice whole reads as 0, and a store that
 // does not fit writes nothing.
-ghost use Rattle.std.specs.Prelude.{◌≡◌, ◌+◌, ◌-◌, ◌≤◌, ◌<◌, length};
-ghost use Rattle.std.specs.Int.{w32};
-ghost use Rattle.std.proofs.Common.{to_z, of_z};
-ghost use Rattle.codec.specs.LittleEndian.{le_at, field_at, with_field};
-
-use crate::words::{i32_of, u16_of, u32_of, u64_of};
-use numbers::signs::bits32;
+ghost use Rattle.std.specs.Prelude.{◌≡◌, ◌-◌, length};
+ghost use Rattle.std.specs.Int.{w32, cast_signed, cast_unsigned};
+ghost use Rattle.codec.specs.LittleEndian.{bytes_at, field_at, stored, with_field};
 
 // How many bytes lie from a position on.
 pub fn left_at(s: &[u8], at: usize) -> usize
     ensures { result ≡ length s.now - at }
 {
-    if at <= s.len() {
-        return s.len() - at;
-    }
-    0
+    s.len().saturating_sub(at)
 }
 
-// A field that lies in the slice whole, as the caller has shown.
-#[tactic(auto, unfolding(crate::specs::LittleEndian::le_at))]
-pub(crate) fn u16_in(s: &[u8], at: usize) -> u16
-    requires { at + 2 ≤ length s.now }
-    ensures { result ≡ le_at s.now at 2 }
+// The N bytes from a position on, where they lie in the slice whole.
+#[tactic(auto, unfolding(crate::specs::LittleEndian::bytes_at))]
+pub(crate) fn bytes_at<const N: usize>(s: &[u8], at: usize) -> Option<[u8; N]>
+    ensures { result ≡ bytes_at s.now at N }
 {
-    u16_of(s[at], s[at + 1])
-}
-
-#[tactic(auto, unfolding(crate::specs::LittleEndian::le_at))]
-pub(crate) fn u32_in(s: &[u8], at: usize) -> u32
-    requires { at + 4 ≤ length s.now }
-    ensures { result ≡ le_at s.now at 4 }
-{
-    u32_of(s[at], s[at + 1], s[at + 2], s[at + 3])
-}
-
-#[tactic(auto, unfolding(crate::specs::LittleEndian::le_at))]
-pub(crate) fn u64_in(s: &[u8], at: usize) -> u64
-    requires { at + 8 ≤ length s.now }
-    ensures { result ≡ le_at s.now at 8 }
-{
-    u64_of(
-        s[at],
-        s[at + 1],
-        s[at + 2],
-        s[at + 3],
-        s[at + 4],
-        s[at + 5],
-        s[at + 6],
-        s[at + 7],
-    )
+    s.get(at..at.saturating_add(N))?.as_array().copied()
 }
 
 #[tactic(auto, unfolding(crate::specs::LittleEndian::field_at, crate::specs::LittleEndian::le_at))]
 pub fn u8_at(s: &[u8], at: usize) -> u8
     ensures { result ≡ field_at s.now at 1 }
 {
-    if at < s.len() {
-        return s[at];
-    }
-    0
+    s.get(at).copied().unwrap_or(0)
 }
 
-#[tactic(auto, unfolding(crate::specs::LittleEndian::field_at))]
+// One function for each width: each is `bytes_at` and the type's own `from_le_bytes`, and a trait to join them would be longer than they are.
+#[tactic(auto, using(crate::proofs::Parts::number_16, crate::proofs::Parts::no_number))]
 pub fn u16_at(s: &[u8], at: usize) -> u16
     ensures { result ≡ field_at s.now at 2 }
 {
-    if left_at(s, at) < 2 {
-        return 0;
+    match bytes_at(s, at) {
+        Some(bytes) => u16::from_le_bytes(bytes),
+        None => 0,
     }
-    u16_in(s, at)
 }
 
-#[tactic(auto, unfolding(crate::specs::LittleEndian::field_at))]
+#[tactic(auto, using(crate::proofs::Parts::number_32, crate::proofs::Parts::no_number))]
 pub fn u32_at(s: &[u8], at: usize) -> u32
     ensures { result ≡ field_at s.now at 4 }
 {
-    if left_at(s, at) < 4 {
-        return 0;
+    match bytes_at(s, at) {
+        Some(bytes) => u32::from_le_bytes(bytes),
+        None => 0,
     }
-    u32_in(s, at)
 }
 
-#[tactic(auto, unfolding(crate::specs::LittleEndian::field_at))]
+#[tactic(auto, using(crate::proofs::Parts::number_64, crate::proofs::Parts::no_number))]
 pub fn u64_at(s: &[u8], at: usize) -> u64
     ensures { result ≡ field_at s.now at 8 }
 {
-    if left_at(s, at) < 8 {
-        return 0;
+    match bytes_at(s, at) {
+        Some(bytes) => u64::from_le_bytes(bytes),
+        None => 0,
     }
-    u64_in(s, at)
 }
 
-#[tactic(auto, unfolding(crate::specs::LittleEndian::field_at, crate::specs::LittleEndian::le_at))]
 pub fn i32_at(s: &[u8], at: usize) -> i32
-    ensures { result ≡ to_z w32 (field_at s.now at 4) }
+    ensures { result ≡ cast_signed w32 (field_at s.now at 4) }
 {
-    if left_at(s, at) < 4 {
-        return 0;
-    }
-    i32_of(s[at], s[at + 1], s[at + 2], s[at + 3])
+    u32_at(s, at).cast_signed()
 }
 
-// The n low bytes of x, the least first.
-fn put_le(b: &mut [u8], at: usize, n: usize, x: u64)
-    requires { 0 < n }
-    ensures { b.new ≡ with_field b.old at n x }
+// The bytes of v from a position on, where they fit.
+#[tactic(auto, using(crate::proofs::Stores::written_over, crate::proofs::Stores::not_written))]
+pub(crate) fn put_bytes(b: &mut [u8], at: usize, v: &[u8])
+    ensures { b.new ≡ stored b.old at v.now }
 {
-    if left_at(b, at) < n {
-        return;
-    }
-    let mut p = at;
-    let mut left = n;
-    let mut y = x;
-    while 0 < left {
-        b[p] = (y % 256) as u8;
-        p += 1;
-        left -= 1;
-        y = y / 256;
+    if at.saturating_add(v.len()) <= b.len() {
+        b[at..at + v.len()].copy_from_slice(v);
     }
 }
 
+// One line for each width, over `put_bytes` and the type's own `to_le_bytes`, and no trait, which would be longer.
+#[tactic(auto, unfolding(crate::specs::LittleEndian::with_field), using(crate::proofs::Parts::bytes_8))]
 pub fn put_u8(b: &mut [u8], at: usize, x: u8)
     ensures { b.new ≡ with_field b.old at 1 x }
 {
-    put_le(b, at, 1, x as u64)
+    put_bytes(b, at, &[x]);
 }
 
+#[tactic(auto, unfolding(crate::specs::LittleEndian::with_field), using(crate::proofs::Parts::bytes_16))]
 pub fn put_u16(b: &mut [u8], at: usize, x: u16)
     ensures { b.new ≡ with_field b.old at 2 x }
 {
-    put_le(b, at, 2, x as u64)
+    put_bytes(b, at, &x.to_le_bytes());
 }
 
+#[tactic(auto, unfolding(crate::specs::LittleEndian::with_field), using(crate::proofs::Parts::bytes_32))]
 pub fn put_u32(b: &mut [u8], at: usize, x: u32)
     ensures { b.new ≡ with_field b.old at 4 x }
 {
-    put_le(b, at, 4, x as u64)
+    put_bytes(b, at, &x.to_le_bytes());
 }
 
+#[tactic(auto, unfolding(crate::specs::LittleEndian::with_field), using(crate::proofs::Parts::bytes_64))]
 pub fn put_u64(b: &mut [u8], at: usize, x: u64)
     ensures { b.new ≡ with_field b.old at 8 x }
 {
-    put_le(b, at, 8, x)
+    put_bytes(b, at, &x.to_le_bytes());
 }
 
 pub fn put_i32(b: &mut [u8], at: usize, z: i32)
-    ensures { b.new ≡ with_field b.old at 4 (of_z w32 z) }
+    ensures { b.new ≡ with_field b.old at 4 (cast_unsigned w32 z) }
 {
-    put_u32(b, at, bits32(z))
+    put_u32(b, at, z.cast_unsigned());
 }

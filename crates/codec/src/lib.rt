@@ -4,11 +4,10 @@
 
 pub mod fields;
 pub mod reader;
-pub mod words;
 pub mod writer;
 
 // Where the next byte is read or written.
-#[derive(Clone, Copy)]
+#[derive(Clone, Copy, Debug, PartialEq, Eq)]
 pub struct Place {
     pub pos: usize,
 }

@@ -1,17 +1,14 @@
-// `Writer`: its methods as functions on a lent buffer and the place. What does not fit is answered by document 01's number 6 and nothing is written.
+// `Writer`: its methods as functions on a lent buffer and the place. What does not fit is refused by document 01's number 6, nothing is written and the place
+// stays.
 ghost use Rattle.std.specs.Prelude.{◌≡◌, length, take};
 ghost use Rattle.codec.specs.LittleEndian.{stored, with_field};
 ghost use Rattle.codec.specs.Writing.{start, room_for, written};
+ghost use Rattle.refusals.specs.Answers.{answered, passed};
 
 use crate::Place;
-use crate::fields::{left_at, put_u8, put_u16, put_u32, put_u64};
-
-// 0 and the place after what was written, or 6 and the place as it was.
-#[derive(Clone, Copy)]
-pub struct Written {
-    pub refusal: u8,
-    pub place: Place,
-}
+use crate::fields::put_bytes;
+use crate::reader::needed_for;
+use refusals::refusal::Refusal;
 
 pub fn new() -> Place
     ensures { result ≡ start }
@@ -20,94 +17,65 @@ pub fn new() -> Place
 }
 
 // A writer at the start of a buffer with room for n bytes.
-#[tactic(auto, unfolding(crate::specs::Writing::room_for))]
-pub fn with_capacity(b: &[u8], n: usize) -> Written
-    ensures { result ≡ room_for b.now n }
+#[tactic(auto, unfolding(crate::specs::Writing::room_for, refusals::specs::Answers::answered, refusals::specs::Answers::numbered))]
+pub fn with_capacity(b: &[u8], n: usize) -> Result<Place, Refusal>
+    ensures { result ≡ answered (room_for b.now n).refusal (room_for b.now n).place }
 {
     if b.len() < n {
-        return Written {
-            refusal: 6,
-            place: Place { pos: 0 },
-        };
+        return Err(Refusal::OutputBuffer);
     }
-    Written {
-        refusal: 0,
-        place: Place { pos: 0 },
+    Ok(new())
+}
+
+#[tactic(auto, unfolding(crate::specs::Writing::written, crate::specs::Reading::needed_for, crate::specs::Reading::place_after, refusals::specs::Answers::answered, refusals::specs::Answers::numbered), using(crate::proofs::Stores::not_written))]
+pub fn write_bytes(b: &mut [u8], at: &mut Place, v: &[u8]) -> Result<(), Refusal>
+    ensures answer { result ≡ passed (written b.old at.old (length v.now)).refusal }
+    ensures place { at.new ≡ (written b.old at.old (length v.now)).place }
+    ensures bytes { b.new ≡ stored b.old at.old.pos v.now }
+{
+    if b.len() < needed_for(at.pos, v.len()) {
+        return Err(Refusal::OutputBuffer);
     }
+    put_bytes(b, at.pos, v);
+    at.pos += v.len();
+    Ok(())
 }
 
-// The answer to a write of n bytes.
-#[tactic(auto, unfolding(crate::specs::Writing::written, crate::specs::Reading::place_after))]
-fn answer(b: &[u8], at: Place, n: usize) -> Written
-    ensures { result ≡ written b.now at n }
+// A number of each width is its bytes. The names are the commit's.
+#[tactic(auto, unfolding(crate::specs::LittleEndian::with_field), using(crate::proofs::Parts::bytes_8))]
+pub fn write_u8(b: &mut [u8], at: &mut Place, v: u8) -> Result<(), Refusal>
+    ensures answer { result ≡ passed (written b.old at.old 1).refusal }
+    ensures place { at.new ≡ (written b.old at.old 1).place }
+    ensures bytes { b.new ≡ with_field b.old at.old.pos 1 v }
 {
-    let pos = at.pos;
-    if pos <= b.len() {
-        if n <= b.len() - pos {
-            return Written {
-                refusal: 0,
-                place: Place { pos: pos + n },
-            };
-        }
-    }
-    Written {
-        refusal: 6,
-        place: at,
-    }
+    write_bytes(b, at, &[v])
 }
 
-pub fn write_u8(b: &mut [u8], at: Place, v: u8) -> Written
-    ensures { (result ≡ written b.old at 1) × (b.new ≡ with_field b.old at.pos 1 v) }
+#[tactic(auto, unfolding(crate::specs::LittleEndian::with_field), using(crate::proofs::Parts::bytes_16))]
+pub fn write_u16_le(b: &mut [u8], at: &mut Place, v: u16) -> Result<(), Refusal>
+    ensures answer { result ≡ passed (written b.old at.old 2).refusal }
+    ensures place { at.new ≡ (written b.old at.old 2).place }
+    ensures bytes { b.new ≡ with_field b.old at.old.pos 2 v }
 {
-    let w = answer(b, at, 1);
-    put_u8(b, at.pos, v);
-    w
+    write_bytes(b, at, &v.to_le_bytes())
 }
 
-pub fn write_u16_le(b: &mut [u8], at: Place, v: u16) -> Written
-    ensures { (result ≡ written b.old at 2) × (b.new ≡ with_field b.old at.pos 2 v) }
+#[tactic(auto, unfolding(crate::specs::LittleEndian::with_field), using(crate::proofs::Parts::bytes_32))]
+pub fn write_u32_le(b: &mut [u8], at: &mut Place, v: u32) -> Result<(), Refusal>
+    ensures answer { result ≡ passed (written b.old at.old 4).refusal }
+    ensures place { at.new ≡ (written b.old at.old 4).place }
+    ensures bytes { b.new ≡ with_field b.old at.old.pos 4 v }
 {
-    let w = answer(b, at, 2);
-    put_u16(b, at.pos, v);
-    w
+    write_bytes(b, at, &v.to_le_bytes())
 }
 
-pub fn write_u32_le(b: &mut [u8], at: Place, v: u32) -> Written
-    ensures { (result ≡ written b.old at 4) × (b.new ≡ with_field b.old at.pos 4 v) }
+#[tactic(auto, unfolding(crate::specs::LittleEndian::with_field), using(crate::proofs::Parts::bytes_64))]
+pub fn write_u64_le(b: &mut [u8], at: &mut Place, v: u64) -> Result<(), Refusal>
+    ensures answer { result ≡ passed (written b.old at.old 8).refusal }
+    ensures place { at.new ≡ (written b.old at.old 8).place }
+    ensures bytes { b.new ≡ with_field b.old at.old.pos 8 v }
 {
-    let w = answer(b, at, 4);
-    put_u32(b, at.pos, v);
-    w
-}
-
-pub fn write_u64_le(b: &mut [u8], at: Place, v: u64) -> Written
-    ensures { (result ≡ written b.old at 8) × (b.new ≡ with_field b.old at.pos 8 v) }
-{
-    let w = answer(b, at, 8);
-    put_u64(b, at.pos, v);
-    w
-}
-
-// The bytes of v from a position on, where they fit.
-fn paste(b: &mut [u8], at: usize, v: &[u8])
-    ensures { b.new ≡ stored b.old at v.now }
-{
-    if left_at(b, at) < v.len() {
-        return;
-    }
-    let mut i = 0;
-    while i < v.len() {
-        b[at + i] = v[i];
-        i += 1;
-    }
-}
-
-pub fn write_bytes(b: &mut [u8], at: Place, v: &[u8]) -> Written
-    ensures { (result ≡ written b.old at (length v.now)) × (b.new ≡ stored b.old at.pos v.now) }
-{
-    let w = answer(b, at, v.len());
-    paste(b, at.pos, v);
-    w
+    write_bytes(b, at, &v.to_le_bytes())
 }
 
 // How many bytes have been written.
@@ -121,9 +89,5 @@ pub fn len(at: Place) -> usize
 pub fn into_vec(b: &[u8], at: Place) -> &[u8]
     ensures { result.now ≡ take at.pos b.now }
 {
-    let pos = at.pos;
-    if pos <= b.len() {
-        return &b[..pos];
-    }
-    b
+    &b[..at.pos.min(b.len())]
 }

@@ -1,113 +1,85 @@
 // What happens to the link, and when. The first four hours come again as the first hours of each week.
 ghost use Rattle.std.specs.Prelude.{◌<◌, ◌^◌};
 
-pub const FIRST_HOURS: u64 = 240;
+pub const FIRST_HOURS: u32 = 4 * 60;
 
-const DAY: u64 = 1440;
+const DAY: u32 = 24 * 60;
 
-const WEEK: u64 = 7 * DAY;
+const WEEK: u32 = 7 * DAY;
 
-pub const YEAR: u64 = 365 * DAY;
+pub const YEAR: u32 = 365 * DAY;
 
-// 15.9 years: a minute is taken modulo it, so that no clock can overflow. The life is ten years.
-const MOST_MINUTES: u64 = 1 << 23;
+// The minute of each day in which both ends rekey.
+const REKEY: u32 = 90;
 
-// Sent timestamps are u32: they wrap after 49.7 days.
-pub const TIMESTAMP_SPAN: u64 = 1 << 32;
+// A minute has four frames, one to a second: how late each is beside the others.
+pub const WOBBLES_MS: [u8; 4] = [0, 1, 3, 0];
 
-// A minute's beginning by the sender's clock.
-pub fn clock_ms(minute: u64) -> u64
-    ensures { result < 2 ^ 40 }
-{
-    60000 * (minute % MOST_MINUTES)
-}
+// A minute of the life. 32 bits of them are so few that no clock can overflow.
+#[derive(Clone, Copy)]
+pub struct Minute(pub u32);
 
-// The minute that comes next.
-pub fn next(minute: u64) -> u64 {
-    minute % MOST_MINUTES + 1
-}
-
-// --- Round trips ---
-
-pub fn slow(minute: u64) -> bool {
-    let now = minute % WEEK;
-    (40 <= now) & (now < 50)
-}
-
-const WORD: u64 = 1 << 32;
-
-// A number below 1024 that looks random from minute to minute (multiplicative hashing).
-fn scattered(minute: u64) -> u64 {
-    let first = minute % MOST_MINUTES * 2654435761 % WORD;
-    let second = (first + first / 32768) % WORD * 2246822519 % WORD;
-    second / (1 << 22)
-}
-
-// After the first hours about one round trip in thirteen is a little longer.
-fn longer(minute: u64) -> bool {
-    (FIRST_HOURS <= minute) & (scattered(minute) < 79)
-}
-
-pub fn round_trip_ms(minute: u64) -> u32
-    ensures { result < 1000 }
-{
-    if slow(minute) {
-        return 180;
+impl Minute {
+    // Its beginning by the sender's clock.
+    pub fn clock_ms(self) -> u64
+        ensures { result < 2 ^ 48 }
+    {
+        60_000 * u64::from(self.0)
     }
-    if longer(minute) {
-        return 4;
+
+    fn of_week(self) -> u32 {
+        self.0 % WEEK
     }
-    3
-}
 
-// --- Frames ---
+    // --- Round trips ---
 
-pub fn rekeys(minute: u64) -> bool {
-    minute % DAY == 90
-}
-
-// The minutes since the last rekey, where counters begin again. The sender's clock goes on, so that its timestamps wrap.
-pub fn session_minute(minute: u64) -> u64
-    ensures { result < 1440 }
-{
-    if minute < 90 {
-        minute
-    } else {
-        (minute - 90) % DAY
+    // A number below 1024 that looks random from minute to minute (multiplicative hashing).
+    fn scattered(self) -> u32 {
+        let first = self.0.wrapping_mul(2_654_435_761);
+        first.wrapping_add(first >> 15).wrapping_mul(2_246_822_519) >> 22
     }
-}
 
-// Half of the frames are lost in the lossy hour.
-pub fn lossy(minute: u64) -> bool {
-    let now = minute % WEEK;
-    (120 <= now) & (now < 180)
-}
-
-pub fn arrives(minute: u64, frame: u64) -> bool {
-    !lossy(minute) | (frame % 2 == 0)
-}
-
-// How late a frame is beside the others of its minute.
-pub fn wobble_ms(frame: u64) -> u64
-    ensures { result < 4 }
-{
-    if frame == 1 {
-        return 1;
+    // After the first hours about one round trip in thirteen is a little longer.
+    fn is_longer(self) -> bool {
+        FIRST_HOURS <= self.0 && self.scattered() < 79
     }
-    if frame == 2 {
-        return 3;
+
+    // The slow spell is ten minutes long.
+    pub fn round_trip_ms(self) -> u32 {
+        match self.of_week() {
+            40..50 => 180,
+            _ if self.is_longer() => 4,
+            _ => 3,
+        }
     }
-    0
-}
 
-// --- Reports that tell nothing new ---
+    // --- Frames ---
 
-// This minute's report comes twice.
-pub fn repeats(minute: u64) -> bool {
-    minute % 7 == 3
-}
+    pub fn rekeys(self) -> bool {
+        self.0 % DAY == REKEY
+    }
 
-// The report of the minute before comes once more.
-pub fn comes_late(minute: u64) -> bool {
-    minute % 11 == 5
+    // The minutes since the last rekey, where counters begin again. The sender's clock goes on, so that its timestamps wrap.
+    pub fn of_session(self) -> u32 {
+        self.0
+            .checked_sub(REKEY)
+            .map_or(self.0, |since| since % DAY)
+    }
+
+    // Half of the frames are lost in the lossy hour.
+    pub fn arrives(self, frame: u8) -> bool {
+        !(120..180).contains(&self.of_week()) || frame % 2 == 0
+    }
+
+    // --- Reports that tell nothing new ---
+
+    // This minute's report comes twice.
+    pub fn repeats(self) -> bool {
+        self.0 % 7 == 3
+    }
+
+    // The report of the minute before comes once more.
+    pub fn comes_late(self) -> bool {
+        self.0 % 11 == 5
+    }
 }

@@ -9,24 +9,19 @@ pub struct Extremes {
     pub variation: f64,
 }
 
-pub fn none() -> Extremes {
-    Extremes {
-        least: 1000000.0,
-        greatest: -1000000.0,
-        variation: 0.0,
-    }
-}
-
-fn greater(a: f64, b: f64) -> f64 {
-    if a > b { a } else { b }
-}
-
 impl Extremes {
-    pub fn with(self, above: f64, off: f64) -> Extremes {
+    pub const NONE: Extremes = Extremes {
+        least: f64::INFINITY,
+        greatest: f64::NEG_INFINITY,
+        variation: 0.0,
+    };
+
+    // Those of both spans of time.
+    pub fn and(self, other: Extremes) -> Extremes {
         Extremes {
-            least: floats::least(self.least, above),
-            greatest: greater(self.greatest, above),
-            variation: greater(self.variation, off),
+            least: self.least.min(other.least),
+            greatest: self.greatest.max(other.greatest),
+            variation: self.variation.max(other.variation),
         }
     }
 }

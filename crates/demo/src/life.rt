@@ -1,229 +1,149 @@
 // Our metrics, the peer's receiver, what stands beside them, and a minute of their life.
+use crate::calendar::{Minute, WOBBLES_MS};
 use crate::extremes::Extremes;
 use crate::smoothers::Smoothers;
-use crate::{calendar, extremes, smoothers};
 use metrics::MmpMetrics;
-use numbers::signs::unsigned;
 use receiver::ReceiverState;
+use refusals::refusal::Refused;
+use std::mem;
 use wire::receiver_report::{ReceiverReport, no_report};
 
-#[derive(Clone, Copy)]
-pub struct Life {
-    // The minutes that it has had.
-    pub minutes: u64,
-    pub metrics: MmpMetrics,
-    pub receiver: ReceiverState,
-    // The report before the last one.
-    pub earlier: ReceiverReport,
-    pub last: ReceiverReport,
-    pub smoothers: Smoothers,
-    // Of this year, and of all.
-    pub year: Extremes,
-    pub ever: Extremes,
-}
-
-// What the tables show.
-#[derive(Clone, Copy)]
-pub struct Figures {
-    pub srtt_us: u64,
-    // S.
-    pub average_us: f64,
-    // SRTT - S.
-    pub above: f64,
-    pub rttvar_us: u64,
-    // V.
-    pub variation_us: f64,
-    // RTTVAR - V.
-    pub variation_above: f64,
-    pub jitter_us: u64,
-    pub etx: f64,
-    pub whole_ms: u64,
-    pub reports: u64,
-    pub round_trips: u64,
-    pub stale: u64,
-}
-
-pub fn new() -> Life {
-    let metrics = MmpMetrics::new();
-    let receiver = ReceiverState::new(32);
-    Life {
-        minutes: 0,
-        metrics,
-        receiver,
-        earlier: no_report(),
-        last: no_report(),
-        smoothers: smoothers::new(),
-        year: extremes::none(),
-        ever: extremes::none(),
-    }
-}
+// The receiver's window of delay samples.
+const WINDOW: usize = 32;
 
 // The receiver's clock is 500 s ahead of the sender's.
-const AHEAD_MS: u64 = 500000;
+const AHEAD_MS: u64 = 500_000;
 
-// A frame of the minute, one to a second, as it reaches the peer.
-fn frame(
-    s: ReceiverState,
-    minute: u64,
-    frame: u64,
-    times: &mut [u32],
-    delays: &mut [i64],
-) -> ReceiverState {
-    let i = frame % 4;
-    let sent_ms = calendar::clock_ms(minute) + 1000 * i + 1;
-    let counter = 4 * calendar::session_minute(minute) + i;
-    let now_ms = sent_ms + AHEAD_MS + calendar::wobble_ms(i);
-    if calendar::arrives(minute, i) {
-        let sent = (sent_ms % calendar::TIMESTAMP_SPAN) as u32;
-        let update = s.record_recv(times, delays, counter, sent, 1200, false, now_ms);
-        let state = update.state;
-        return state;
-    }
-    s
-}
+// Sent timestamps are u32: they wrap after 49.7 days.
+const TIMESTAMP_SPAN: u64 = 1 << 32;
 
-// Two of the four frames of a minute.
-fn pair(
-    s: ReceiverState,
-    minute: u64,
-    first: u64,
-    times: &mut [u32],
-    delays: &mut [i64],
-) -> ReceiverState {
-    let one = frame(s, minute, first % 4, times, delays);
-    frame(one, minute, first % 4 + 1, times, delays)
-}
-
-// A report reaches us when its echo, its dwell and a round trip have passed.
-fn heard(m: MmpMetrics, rr: ReceiverReport, rtt_ms: u32, minute: u64) -> MmpMetrics {
-    let ours = rr.timestamp_echo as u64 + rr.dwell_time as u64 + rtt_ms as u64;
-    let now_ms = calendar::clock_ms(minute) + 10000;
-    let processed = m.process_receiver_report(rr, (ours % calendar::TIMESTAMP_SPAN) as u32, now_ms);
-    let state = processed.state;
-    state
-}
-
-// The peer's report of a minute, and its receiver after it.
-#[derive(Clone, Copy)]
-struct Told {
-    report: ReceiverReport,
+#[derive(Drop)]
+pub struct Life {
+    pub metrics: MmpMetrics,
     receiver: ReceiverState,
+    times: [u32; WINDOW],
+    delays: [i64; WINDOW],
+    // The report before the last one.
+    earlier: ReceiverReport,
+    pub last: ReceiverReport,
+    smoothers: Option<Smoothers>,
+    // Of this year.
+    pub year: Extremes,
 }
 
-fn reported(s: ReceiverState, minute: u64, times: &mut [u32], delays: &mut [i64]) -> Told {
-    let two = pair(s, minute, 0, times, delays);
-    let four = pair(two, minute, 2, times, delays);
-    let now_ms = calendar::clock_ms(minute) + AHEAD_MS + 3020;
-    let built = four.build_report(times, delays, now_ms);
-    let report = built.report;
-    let receiver = built.state;
-    Told { report, receiver }
+// A refusal leaves the state as it was.
+fn kept<S: Copy>(answer: Result<S, Refused<S>>) -> S {
+    answer.unwrap_or_else(|refused| refused.state)
 }
 
 impl Life {
-    // Our figures, and what stands beside them.
-    pub fn figures(self) -> Figures {
-        let metrics = self.metrics;
-        let srtt = metrics.srtt;
-        let report = self.last;
-        let beside = self.smoothers;
-        let srtt_us = unsigned(srtt.srtt_us);
-        let rttvar_us = unsigned(srtt.rttvar_us);
-        Figures {
-            srtt_us,
-            average_us: beside.average_us,
-            above: floats::nearest_u64_to_f64(srtt_us) - beside.average_us,
-            rttvar_us,
-            variation_us: beside.variation_us,
-            variation_above: floats::nearest_u64_to_f64(rttvar_us) - beside.variation_us,
-            jitter_us: report.jitter as u64,
-            etx: metrics.etx,
-            whole_ms: beside.whole_ms,
-            reports: metrics.reports_seen,
-            round_trips: metrics.rtt_samples,
-            stale: metrics.stale_reports,
+    pub fn new() -> Life {
+        Life {
+            metrics: MmpMetrics::new(),
+            receiver: ReceiverState::new(WINDOW),
+            times: [0; WINDOW],
+            delays: [0; WINDOW],
+            earlier: no_report(),
+            last: no_report(),
+            smoothers: None,
+            year: Extremes::NONE,
         }
     }
 
-    // A rekey of both ends, where the minute has one.
-    fn rekeyed(self, minute: u64) -> Life {
-        let mut next = self;
-        if calendar::rekeys(minute) {
-            let ours = self.metrics.reset_for_rekey();
-            let metrics = ours.state;
-            let theirs = self
-                .receiver
-                .reset_for_rekey(calendar::clock_ms(minute) + AHEAD_MS);
-            let receiver = theirs.state;
-            next.metrics = metrics;
-            next.receiver = receiver;
+    // --- What stands beside ---
+
+    pub fn beside(&self) -> Smoothers {
+        self.smoothers.unwrap_or_default()
+    }
+
+    // SRTT - S.
+    pub fn above(&self) -> f64 {
+        floats::nearest_i64_to_f64(self.metrics.srtt.srtt_us) - self.beside().average_us
+    }
+
+    // RTTVAR - V.
+    pub fn variation_above(&self) -> f64 {
+        floats::nearest_i64_to_f64(self.metrics.srtt.rttvar_us) - self.beside().variation_us
+    }
+
+    // --- A minute ---
+
+    // Both ends rekey.
+    fn rekey(&mut self, now_ms: u64) {
+        self.metrics = kept(self.metrics.reset_for_rekey());
+        self.receiver = kept(self.receiver.reset_for_rekey(now_ms));
+    }
+
+    // The minute's frames reach the peer.
+    fn receive(&mut self, minute: Minute) {
+        for (frame, wobble_ms) in (0u8..).zip(WOBBLES_MS) {
+            if !minute.arrives(frame) {
+                continue;
+            }
+            let sent_ms = minute.clock_ms() + 1000 * u64::from(frame) + 1;
+            self.receiver = kept(
+                self.receiver.record_recv(
+                    &mut self.times,
+                    &mut self.delays,
+                    4 * u64::from(minute.of_session()) + u64::from(frame),
+                    (sent_ms % TIMESTAMP_SPAN) as u32,
+                    1200,
+                    false,
+                    sent_ms + AHEAD_MS + u64::from(wobble_ms),
+                ),
+            );
         }
-        next
     }
 
-    // The minute's report comes twice, or the one before comes late: with times that would be round trips of 900 and 700 ms.
-    fn again(self, minute: u64) -> Life {
-        let last = self.last;
-        let earlier = self.earlier;
-        let mut metrics = self.metrics;
-        if calendar::repeats(minute) {
-            metrics = heard(metrics, last, 900, minute);
+    // The peer's report of the minute.
+    fn report(&mut self, now_ms: u64) {
+        if let Ok((receiver, Some(report))) = self
+            .receiver
+            .build_report(&self.times, &self.delays, now_ms)
+        {
+            self.receiver = receiver;
+            self.earlier = mem::replace(&mut self.last, report);
         }
-        if calendar::comes_late(minute) {
-            metrics = heard(metrics, earlier, 700, minute);
+    }
+
+    // A report reaches us when its echo, its dwell and a round trip have passed.
+    fn hear(&mut self, report: ReceiverReport, rtt_ms: u32, minute: Minute) {
+        let ours = report
+            .timestamp_echo
+            .wrapping_add(u32::from(report.dwell_time))
+            .wrapping_add(rtt_ms);
+        let processed = self
+            .metrics
+            .process_receiver_report(report, ours, minute.clock_ms() + 10_000);
+        self.metrics = kept(processed.map(|(metrics, _)| metrics));
+    }
+
+    // A minute more. Its report may come twice, or the one before late: with times that would be round trips of 900 and 700 ms.
+    pub fn minute(&mut self, minute: Minute) {
+        let theirs_ms = minute.clock_ms() + AHEAD_MS;
+        if minute.rekeys() {
+            self.rekey(theirs_ms);
         }
-        let mut next = self;
-        next.metrics = metrics;
-        next
-    }
+        self.receive(minute);
+        self.report(theirs_ms + 3020);
 
-    // Our half of the minute.
-    fn taken(self, told: Told, minute: u64) -> Life {
-        let rtt_ms = calendar::round_trip_ms(minute);
-        let report = told.report;
-        let receiver = told.receiver;
-        let earlier = self.last;
-        let before = self.metrics;
-        let metrics = heard(before, report, rtt_ms, minute);
-        let smoothers = self.smoothers.after(rtt_ms);
-        let mut next = self;
-        next.metrics = metrics;
-        next.receiver = receiver;
-        next.earlier = earlier;
-        next.last = report;
-        next.smoothers = smoothers;
-        next.again(minute)
-    }
-
-    // This year's extremes so far.
-    fn year_before(self, minute: u64) -> Extremes {
-        if minute % calendar::YEAR == 0 {
-            return extremes::none();
+        let rtt_ms = minute.round_trip_ms();
+        self.hear(self.last, rtt_ms, minute);
+        if minute.repeats() {
+            self.hear(self.last, 900, minute);
         }
-        let year = self.year;
-        year
-    }
+        if minute.comes_late() {
+            self.hear(self.earlier, 700, minute);
+        }
 
-    // The extremes with this minute's.
-    fn measured(self, minute: u64) -> Life {
-        let now = self.figures();
-        let off = smoothers::magnitude(now.variation_above);
-        let year = self.year_before(minute).with(now.above, off);
-        let ever = self.ever.with(now.above, off);
-        let mut next = self;
-        next.year = year;
-        next.ever = ever;
-        next
-    }
-
-    // A minute more.
-    pub fn minute(self, times: &mut [u32], delays: &mut [i64]) -> Life {
-        let minute = self.minutes;
-        let begun = self.rekeyed(minute);
-        let receiver = begun.receiver;
-        let told = reported(receiver, minute, times, delays);
-        let mut next = begun.taken(told, minute);
-        next.minutes = calendar::next(minute);
-        next.measured(minute)
+        self.smoothers = Some(match self.smoothers {
+            None => Smoothers::first(rtt_ms),
+            Some(before) => before.after(rtt_ms),
+        });
+        self.year = self.year.and(Extremes {
+            least: self.above(),
+            greatest: self.above(),
+            variation: self.variation_above().abs(),
+        });
     }
 }

@@ -5,98 +5,59 @@
 #![tactic(auto)]
 
 mod calendar;
+mod cut;
 mod extremes;
 mod life;
 mod lines;
-mod print;
 mod smoothers;
 
+use calendar::{FIRST_HOURS, Minute, YEAR};
+use extremes::Extremes;
 use life::Life;
 use std::env::{Env, FillError};
-use std::io;
 use std::io::{BufWriter, Write};
+use std::{io, mem};
 
-const YEARS: u64 = 10;
+const YEARS: u32 = 10;
 
-// A minute with an event, and every tenth.
-fn shown(minute: u64) -> bool {
-    (minute % 10 == 0) | (minute == 3) | (minute == 5) | (minute == calendar::FIRST_HOURS - 1)
+// A minute with an event, every tenth, and the last.
+fn shown(minute: u32) -> bool {
+    minute % 10 == 0 || minute == 3 || minute == 5 || minute == FIRST_HOURS - 1
 }
 
-// A minute of the years: the first has the heading, and the last of a year its line.
-fn told_of_years(out: &mut impl Write, life: Life, minute: u64) -> io::Result<()> {
-    if minute == calendar::FIRST_HOURS {
-        lines::years_heading(out)?;
-    }
-    if minute % calendar::YEAR == calendar::YEAR - 1 {
-        let extremes = life.year;
-        lines::year(out, life.figures(), extremes, minute / calendar::YEAR + 1)?;
-    }
-    Ok(())
-}
-
-fn told(out: &mut impl Write, life: Life, minute: u64, every: bool) -> io::Result<()> {
-    if calendar::FIRST_HOURS <= minute {
-        return told_of_years(out, life, minute);
-    }
-    if every | shown(minute) {
-        lines::minute(out, life.figures(), minute)?;
+fn first_hours(out: &mut impl Write, life: &mut Life, every: bool) -> io::Result<()> {
+    out.write_all(lines::HEADING.as_bytes())?;
+    for minute in 0..FIRST_HOURS {
+        life.minute(Minute(minute));
+        if every || shown(minute) {
+            lines::minute(out, life, minute)?;
+        }
     }
     Ok(())
 }
 
-// A minute more, and its line.
-fn minute(
-    out: &mut impl Write,
-    life: Life,
-    every: bool,
-    times: &mut [u32],
-    delays: &mut [i64],
-) -> io::Result<Life> {
-    let after = life.minute(times, delays);
-    told(out, after, life.minutes, every)?;
-    Ok(after)
-}
-
-fn live(
-    out: &mut impl Write,
-    minutes: u64,
-    every: bool,
-    times: &mut [u32],
-    delays: &mut [i64],
-) -> io::Result<Life> {
-    let mut life = life::new();
-    let mut left = minutes;
-    while left > 0 {
-        left -= 1;
-        life = minute(out, life, every, times, delays)?;
+// The years begin with the first hours.
+fn years(out: &mut impl Write, life: &mut Life) -> io::Result<()> {
+    out.write_all(lines::YEARS_HEADING.as_bytes())?;
+    let mut ever = Extremes::NONE;
+    for minute in FIRST_HOURS..YEARS * YEAR {
+        life.minute(Minute(minute));
+        if minute % YEAR == YEAR - 1 {
+            lines::year(out, life, minute / YEAR + 1)?;
+            ever = ever.and(mem::replace(&mut life.year, Extremes::NONE));
+        }
     }
-    Ok(life)
-}
-
-fn ended(out: &mut impl Write, life: Life) -> io::Result<()> {
-    let ever = life.ever;
-    lines::last(out, life.figures(), ever, life.minutes / calendar::YEAR)
+    lines::last(out, life, ever, YEARS)
 }
 
 fn main(rt: HostRuntime) -> io::Result<()> {
     // An argument of any bytes: one byte of it is enough to know that it is there.
-    let every = match rt.arg(1, &mut [0u8; 1]) {
-        Err(FillError::NotPresent) => false,
-        _ => true,
-    };
-    let minutes = if every {
-        calendar::FIRST_HOURS
-    } else {
-        YEARS * calendar::YEAR
-    };
-    let mut times = [0u32; 32];
-    let mut delays = [0i64; 32];
+    let every = !matches!(rt.arg(1, &mut [0u8; 1]), Err(FillError::NotPresent));
+    let mut life = Life::new();
     let mut out = BufWriter::new(rt.alloc(), io::writer(&rt))?;
-    lines::heading(&mut out)?;
-    let life = live(&mut out, minutes, every, &mut times, &mut delays)?;
+    first_hours(&mut out, &mut life, every)?;
     if !every {
-        ended(&mut out, life)?;
+        years(&mut out, &mut life)?;
     }
     out.flush()
 }

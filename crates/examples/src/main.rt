@@ -9,37 +9,39 @@ mod estimators;
 mod floats_shown;
 mod lateness;
 mod lines;
+mod link;
 mod processing;
 mod questions_shown;
 mod receiving;
 mod reports;
 mod sending;
 
+use lines::{Lines, Shown};
 use std::io;
 use std::io::{BufWriter, Write};
 
-fn examples(out: &mut impl Write) -> io::Result<()> {
-    lines::heading(out, b"averages\n")?;
+fn examples(out: &mut impl Lines) -> Shown {
+    out.heading("averages")?;
     averages::jitter(out)?;
     averages::round_trip(out)?;
     averages::below_the_average(out)?;
-    lines::heading(out, b"questions\n")?;
+    out.heading("questions")?;
     questions_shown::ranges(out)?;
     questions_shown::order(out)?;
-    lines::heading(out, b"floats\n")?;
+    out.heading("floats")?;
     floats_shown::casts(out)?;
     floats_shown::steps(out)?;
-    lines::heading(out, b"estimators\n")?;
+    out.heading("estimators")?;
     estimators::jitter(out)?;
     estimators::round_trip(out)?;
     estimators::trends(out)?;
     estimators::etx(out)?;
-    lines::heading(out, b"delays\n")?;
+    out.heading("delays")?;
     delays::trend(out)?;
     delays::capacity(out)?;
     delays::too_wide(out)?;
     delays::spin(out)?;
-    lines::heading(out, b"bursts\n")?;
+    out.heading("bursts")?;
     bursts::two_bursts(out)?;
     bursts::one_burst(out)?;
     bursts::long_outage(out)?;
@@ -47,13 +49,13 @@ fn examples(out: &mut impl Write) -> io::Result<()> {
     bursts::long_gap_extends(out)?;
     bursts::longest_gap(out)?;
     bursts::full_count(out)?;
-    lines::heading(out, b"lateness\n")?;
+    out.heading("lateness")?;
     lateness::four_cases(out)?;
     lateness::last_counter(out)?;
     lateness::greatest(out)?;
     lateness::rekey(out)?;
     lateness::no_report(out)?;
-    lines::heading(out, b"reports\n")?;
+    out.heading("reports")?;
     reports::sender(out)?;
     reports::receiver(out)?;
     reports::path_mtu(out)?;
@@ -61,11 +63,11 @@ fn examples(out: &mut impl Write) -> io::Result<()> {
     reports::least_trend(out)?;
     reports::no_room(out)?;
     reports::too_short(out)?;
-    lines::heading(out, b"sending\n")?;
+    out.heading("sending")?;
     sending::failures(out)?;
     sending::report(out)?;
     sending::intervals(out)?;
-    lines::heading(out, b"receiving\n")?;
+    out.heading("receiving")?;
     receiving::grace(out)?;
     receiving::dwell(out)?;
     receiving::counters(out)?;
@@ -79,7 +81,7 @@ fn examples(out: &mut impl Write) -> io::Result<()> {
     receiving::wide_window(out)?;
     receiving::refused_frames(out)?;
     receiving::refused_reports(out)?;
-    lines::heading(out, b"metrics\n")?;
+    out.heading("metrics")?;
     processing::round_trips(out)?;
     processing::stale(out)?;
     processing::delivery(out)?;
@@ -87,8 +89,9 @@ fn examples(out: &mut impl Write) -> io::Result<()> {
     processing::kinds(out)
 }
 
-fn main(rt: HostRuntime) -> io::Result<()> {
+fn main(rt: HostRuntime) -> Shown {
     let mut out = BufWriter::new(rt.alloc(), io::writer(&rt))?;
     examples(&mut out)?;
-    out.flush()
+    out.flush()?;
+    Ok(())
 }

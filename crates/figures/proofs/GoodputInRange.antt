@@ -1,4 +1,5 @@
 -- Bytes over milliseconds as bytes a second, and the goodput smoothed by them, are from 0 to 2^74.
+use Rattle.std.specs.Prelude.{None, Option, Some}
 use mathlib.Core.Path.{◌≡◌, refl, sym, ap, ◌∙◌, subst}
 use mathlib.Core.Logic.{inl, inr}
 use Prim.Native.Nat.{ℕ, suc, ◌+◌, ◌-◌, ◌*◌, ◌^◌, ◌≤◌, ◌<◌}
@@ -19,8 +20,6 @@ use Rattle.floats.proofs.Products.{mul_commutes}
 use Rattle.floats.proofs.Quotients.{div_is, integer_under, integer_value}
 use Rattle.floats.proofs.Ranges.{Within}
 use Rattle.floats.proofs.Smoothing.{ewma_within}
-use Rattle.refusals.specs.declared.option.OptionU64.{OptionU64}
-use Rattle.refusals.specs.declared.option.OptionU64.TheVariants.{None, Some}
 use Rattle.figures.specs.Goodput.{max_goodput, seconds_of, rate_of, toward_rate, goodput_over, goodput_after}
 use Rattle.floats.proofs.IntegersInRange.{units_within, integer_units}
 
@@ -149,7 +148,7 @@ over_kept g bytes ms k clock word =
     }
 
 -- a report keeps the goodput in its range, whatever the clocks say
-pub goodput_kept : (g : Float) (bytes : ℕ) (before : OptionU64) (now : ℕ) → Goodput g → now ≤ 2 ^ 48 → bytes ≤ 2 ^ 64 → Goodput (goodput_after g bytes before now)
+pub goodput_kept : (g : Float) (bytes : ℕ) (before : Option ℕ) (now : ℕ) → Goodput g → now ≤ 2 ^ 48 → bytes ≤ 2 ^ 64 → Goodput (goodput_after g bytes before now)
 unfolding goodput_after
 goodput_kept g bytes None now k clock word = k
 goodput_kept g bytes (Some before) now k clock word = over_kept g bytes (now - before) k (omega arith) word

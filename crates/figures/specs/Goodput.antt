@@ -1,10 +1,8 @@
 -- Smoothed goodput in bytes per second: document 01, "State rule", and metrics.rs. Each operation is rounded once. Definitions only.
-use Rattle.std.specs.Prelude.{Bool, cond, ℕ, ◌-◌, pos, Float}
+use Rattle.std.specs.Prelude.{Bool, cond, ℕ, ◌-◌, pos, Float, None, Option, Some}
 use Rattle.std.specs.Float.{Format, binary64}
 use Rattle.std.specs.Float.Ieee.{add, sub, mul, div, lt, eq, of_int}
 use Rattle.floats.specs.Operations.{zero_float, float, one_quarter, in_range, thousand_float}
-use Rattle.refusals.specs.declared.option.OptionU64.{OptionU64}
-use Rattle.refusals.specs.declared.option.OptionU64.TheVariants.{None, Some}
 
 -- document 01, "State rule": goodput is at most 2^74
 abbrev pub max_goodput : Float
@@ -31,6 +29,6 @@ unfoldable pub goodput_over : Float → ℕ → ℕ → Float
 goodput_over goodput bytes ms = cond (lt zero_float (seconds_of binary64 ms)) (toward_rate goodput (rate_of binary64 bytes ms)) goodput
 
 -- since the report before, 0 ms having passed if the clock fell; without its time the goodput stays
-unfoldable pub goodput_after : Float → ℕ → OptionU64 → ℕ → Float
+unfoldable pub goodput_after : Float → ℕ → Option ℕ → ℕ → Float
 goodput_after goodput bytes None now = goodput
 goodput_after goodput bytes (Some before) now = goodput_over goodput bytes (now - before)

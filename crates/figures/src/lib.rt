@@ -4,14 +4,12 @@
 #![tactic(auto)]
 
 ghost use Rattle.std.specs.Prelude.{◌≡◌};
-ghost use Rattle.figures.specs.Stale.{saved, stale};
+ghost use Rattle.figures.specs.Stale.{counters_of, saved, stale};
 ghost use Rattle.figures.specs.RoundTrips.{round_trip, milliseconds_of, tallies_ok};
 ghost use Rattle.figures.specs.Delivery.{delivery_ratio};
 ghost use Rattle.figures.specs.Goodput.{goodput_ok, toward_rate, goodput_over, goodput_after};
 
 use algorithms::srtt::SrttEstimator;
-use numbers::methods::saturating_sub_u64;
-use refusals::option::OptionU64;
 use wire::receiver_report::ReceiverReport;
 
 // 2^74: the greatest goodput, in bytes per second.
@@ -20,7 +18,7 @@ pub const MAX_GOODPUT: f64 = 18_889_465_931_478_580_854_784.0;
 // --- Stale reports ---
 
 // The counters of a report that the stale test goes by.
-#[derive(Clone, Copy)]
+#[derive(Clone, Copy, PartialEq, Eq)]
 pub struct Counters {
     pub highest: u64,
     pub packets: u64,
@@ -29,31 +27,32 @@ pub struct Counters {
     pub reorders: u32,
 }
 
+impl From<ReceiverReport> for Counters {
+    ghost from_gives = { λ rr counters. counters ≡ counters_of rr };
+
+    fn from(rr: ReceiverReport) -> Counters {
+        Counters {
+            highest: rr.highest_counter,
+            packets: rr.cumulative_packets_recv,
+            bytes: rr.cumulative_bytes_recv,
+            ecn: rr.ecn_ce_count,
+            reorders: rr.cumulative_reorder_count,
+        }
+    }
+}
+
 // Whether a report is stale beside the counters of the one that is kept: one of them fell, or all five are equal.
 #[tactic(auto, unfolding(crate::specs::Stale::stale, crate::specs::Stale::fell, crate::specs::Stale::same))]
 pub fn is_stale(kept: Counters, rr: ReceiverReport) -> bool
     ensures { result ≡ stale (saved kept) rr }
 {
-    if rr.highest_counter < kept.highest {
-        return true;
-    }
-    if rr.cumulative_packets_recv < kept.packets {
-        return true;
-    }
-    if rr.cumulative_bytes_recv < kept.bytes {
-        return true;
-    }
-    if rr.ecn_ce_count < kept.ecn {
-        return true;
-    }
-    if rr.cumulative_reorder_count < kept.reorders {
-        return true;
-    }
-    (rr.highest_counter == kept.highest)
-        & (rr.cumulative_packets_recv == kept.packets)
-        & (rr.cumulative_bytes_recv == kept.bytes)
-        & (rr.ecn_ce_count == kept.ecn)
-        & (rr.cumulative_reorder_count == kept.reorders)
+    let new = Counters::from(rr);
+    let fell = (new.highest < kept.highest)
+        | (new.packets < kept.packets)
+        | (new.bytes < kept.bytes)
+        | (new.ecn < kept.ecn)
+        | (new.reorders < kept.reorders);
+    fell | (new == kept)
 }
 
 // --- Round trip ---
@@ -79,15 +78,12 @@ pub fn round_trip(rr: ReceiverReport, our_timestamp_ms: u32) -> RoundTrip
     if rr.timestamp_echo == 0 {
         return RoundTrip::NoEcho;
     }
-    let send_done_ms = rr.timestamp_echo as u64 + rr.dwell_time as u64;
-    let ours = our_timestamp_ms as u64;
-    if ours < send_done_ms {
-        return RoundTrip::ArithFail;
+    let send_done_ms = u64::from(rr.timestamp_echo) + u64::from(rr.dwell_time);
+    match u64::from(our_timestamp_ms).checked_sub(send_done_ms) {
+        None => RoundTrip::ArithFail,
+        Some(0) => RoundTrip::Zero,
+        Some(ms) => RoundTrip::Sample(ms as u32),
     }
-    if ours == send_done_ms {
-        return RoundTrip::Zero;
-    }
-    RoundTrip::Sample((ours - send_done_ms) as u32)
 }
 
 // The smoothed round trip in milliseconds, whether or not there has been one.
@@ -97,33 +93,27 @@ pub fn smoothed_ms_unchecked(srtt: SrttEstimator) -> f64
     floats::nearest_i64_to_f64(srtt.srtt_us) / 1000.0
 }
 
-// The rule of the six counts: every report seen is of one of five kinds. Each kind is taken off what is left of the reports, so that no sum can wrap.
-pub fn tallies_ok(
-    reports_seen: u64,
-    stale: u64,
-    no_echo: u64,
-    samples: u64,
-    zeros: u64,
-    failures: u64,
-) -> bool
-    ensures { result ≡ tallies_ok reports_seen stale no_echo samples zeros failures }
+// How many reports were seen, and how many of each of the five kinds.
+#[derive(Clone, Copy)]
+pub struct Tallies {
+    pub reports_seen: u64,
+    pub stale: u64,
+    pub no_echo: u64,
+    pub samples: u64,
+    pub zeros: u64,
+    pub failures: u64,
+}
+
+// The rule of the six counts: every report seen is of one of five kinds. 128 bits hold the sum.
+pub fn tallies_ok(t: Tallies) -> bool
+    ensures { result ≡ tallies_ok t.reports_seen t.stale t.no_echo t.samples t.zeros t.failures }
 {
-    if reports_seen < stale {
-        return false;
-    }
-    let fresh = reports_seen - stale;
-    if fresh < no_echo {
-        return false;
-    }
-    let echoes = fresh - no_echo;
-    if echoes < samples {
-        return false;
-    }
-    let invalid = echoes - samples;
-    if invalid < zeros {
-        return false;
-    }
-    failures == invalid - zeros
+    let kinds = u128::from(t.stale)
+        + u128::from(t.no_echo)
+        + u128::from(t.samples)
+        + u128::from(t.zeros)
+        + u128::from(t.failures);
+    kinds == u128::from(t.reports_seen)
 }
 
 // --- Delivery ---
@@ -172,11 +162,11 @@ fn goodput_over(goodput: f64, bytes: u64, ms: u64) -> f64
 
 // The goodput after a report. Without the time of the one before it stays; a clock that fell counts as no time.
 #[tactic(auto, unfolding(crate::specs::Goodput::goodput_after, crate::specs::Goodput::goodput_over, crate::specs::Goodput::toward_rate, crate::specs::Goodput::rate_of, crate::specs::Goodput::seconds_of))]
-pub fn goodput_after_unchecked(goodput: f64, bytes: u64, prev_ms: OptionU64, now_ms: u64) -> f64
+pub fn goodput_after_unchecked(goodput: f64, bytes: u64, prev_ms: Option<u64>, now_ms: u64) -> f64
     ensures { result ≡ goodput_after goodput bytes prev_ms now_ms }
 {
-    match prev_ms {
-        OptionU64::None => goodput,
-        OptionU64::Some(ms) => goodput_over(goodput, bytes, saturating_sub_u64(now_ms, ms)),
-    }
+    prev_ms.map_or(
+        goodput,
+        |ms| goodput_over(goodput, bytes, now_ms.saturating_sub(ms)),
+    )
 }

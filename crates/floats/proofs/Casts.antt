@@ -23,14 +23,8 @@ capped v c h = omega arith
 uncapped : (v c : ℕ) → v < c → (min v c ≡ v) × (min v (c - 1) ≡ v)
 uncapped v c h = (omega arith, omega arith)
 
-one_below : (v c : ℕ) → v < c - 1 → v < c
-one_below v c h = omega arith
-
 reaches : (k Y q : ℕ) → 0 < q → k * q ≤ Y * 1 → k ≤ Y / q
 reaches k Y q Q h = (le-div_iff_mul-le Q).1 (le_trans h (le_of_eq (mul-one Y)))
-
-stays : (k Y q : ℕ) → 0 < q → Y * 1 < k * q → Y / q < k
-stays k Y q Q h = (div-lt_iff_lt-mul Q).1 (subst (λ (z : ℕ). z < k * q) (mul-one Y) h)
 
 -- ---- to a signed integer of h bits and a sign
 pub cast_nan : (h : ℕ) (x : Float) → T (is_nan x) → to_signed h x ≡ pos 0
@@ -71,21 +65,6 @@ cast_low h (fin false n d) l = absurd (some (2 ^ h) (pow_pos h) (sym (one-mul (2
 cast_low h (fin true n d) l =
     ap (λ (v : ℕ). neg_ℤ (pos v)) (capped (n * up d / down d) (2 ^ h)
     (reaches (2 ^ h) (n * up d) (down d) (down_pos d) (subst (λ (z : ℕ). z * down d ≤ n * up d * 1) (one-mul (2 ^ h)) (le→ordered n d 1 (pos h) true true l))))
-
--- between the ends of a range the cast to a wider one is the same
-pub cast_narrows : (h w : ℕ) (x : Float) → h ≤ w → T (lt (least h) x) → T (lt x (greatest h)) → to_signed w x ≡ to_signed h x
-unfolding lt
-cast_narrows h w nan i l r = absurd l
-cast_narrows h w (inf true) i l r = absurd l
-cast_narrows h w (inf false) i l r = absurd r
-cast_narrows h w (fin false n d) i l r =
-    let v : n * up d / down d < 2 ^ h =
-    one_below (n * up d / down d) (2 ^ h) (stays (2 ^ h - 1) (n * up d) (down d) (down_pos d) (subst (λ (z : ℕ). n * up d * 1 < z * down d) (mul-one (2 ^ h - 1)) (ltb→lt (n * up d * 1) ((2 ^ h - 1) * 1 * down d) r))) in
-    cast_cuts w false n d (le_trans v (pow_mono i)) ∙ sym (cast_cuts h false n d v)
-cast_narrows h w (fin true n d) i l r =
-    let v : n * up d / down d < 2 ^ h =
-    stays (2 ^ h) (n * up d) (down d) (down_pos d) (subst (λ (z : ℕ). n * up d * 1 < z * down d) (one-mul (2 ^ h)) (ltb→lt (n * up d * 1) (1 * 2 ^ h * down d) l)) in
-    cast_cuts w true n d (le_trans v (pow_mono i)) ∙ sym (cast_cuts h true n d v)
 
 -- Rust's `x.clamp(f64::from(i32::MIN), f64::from(i32::MAX)) as i32` is `x as i32`
 pub cast_clamped : (h : ℕ) (x : Float) → to_signed h (clamped (least h) (greatest h) x) ≡ to_signed h x

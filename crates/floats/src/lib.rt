@@ -5,7 +5,6 @@
 ghost use Rattle.std.specs.Prelude.{◌≡◌, pos};
 ghost use Rattle.std.specs.Float.Ieee as Ieee;
 ghost use Rattle.std.specs.Float.{binary64};
-ghost use Rattle.limits.specs.Limits.{ewma_short_alpha, ewma_long_alpha};
 ghost use Rattle.floats.specs.Operations.{in_range, clamped, step, complement, rounded_quotient, lesser};
 
 // --- Ranges ---
@@ -41,18 +40,12 @@ pub fn least(a: f64, b: f64) -> f64
 
 // --- Steps ---
 
-// The short trend s moved by the sample x.
-pub fn short_step(s: f64, x: f64) -> f64
-    ensures { result ≡ step binary64 ewma_short_alpha s x }
+// s moved toward the sample x by the part alpha.
+#[tactic(auto, unfolding(crate::specs::Operations::step))]
+pub fn step(alpha: f64, s: f64, x: f64) -> f64
+    ensures { result ≡ step binary64 alpha s x }
 {
-    s + limits::EWMA_SHORT_ALPHA * (x - s)
-}
-
-// The long trend s moved by the sample x.
-pub fn long_step(s: f64, x: f64) -> f64
-    ensures { result ≡ step binary64 ewma_long_alpha s x }
-{
-    s + limits::EWMA_LONG_ALPHA * (x - s)
+    s + alpha * (x - s)
 }
 
 // --- Whole numbers as floats ---
@@ -62,7 +55,7 @@ const MAX_EXACT: u64 = 1 << 53;
 
 const MAX_EXACT_I64: i64 = MAX_EXACT as i64;
 
-// Rust's `n as f64` of a u64.
+// Rust's `n as f64` of a u64. It and the next are not one generic function: each has its type's own exact range and library function.
 pub fn nearest_u64_to_f64(n: u64) -> f64
     ensures { result ≡ Ieee.of_int binary64 (pos n) }
 {
@@ -104,23 +97,9 @@ pub fn quotient(a: u64, b: u64) -> f64
 
 // --- Casts ---
 
-// The ends of i32.
-const I32_MAX: f64 = i32::MAX as f64;
-
-const I32_MIN: f64 = i32::MIN as f64;
-
-// Rust's `x as i32`: cut toward zero, an end of the range where x is beyond it, and 0 for a NaN.
+// Rust's `x as i32`, under the definition that contracts cite: cut toward zero, an end of the range where x is beyond it, and 0 for a NaN.
 pub fn to_i32(x: f64) -> i32
     ensures { result ≡ Ieee.to_signed 31 x }
 {
-    if x >= I32_MAX {
-        return i32::MAX;
-    }
-    if x <= I32_MIN {
-        return i32::MIN;
-    }
-    if x > I32_MIN {
-        return std::num::truncating_f64_to_i64(x) as i32;
-    }
-    0
+    std::num::saturating_f64_to_i32(x)
 }

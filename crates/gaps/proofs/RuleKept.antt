@@ -1,4 +1,5 @@
 -- Each call ends within a tracker's rule: a new tracker keeps it, and so does the tracker after a frame whose burst can be counted, and after a report.
+use Rattle.std.specs.Prelude.{None, Option, Some}
 use mathlib.Core.Path.{◌≡◌, refl, sym, ap, ◌∙◌}
 use mathlib.Core.Bool.{true, false, cond, not, ◌&&◌, ◌||◌, true≢false, and-eq-true_iff}
 use Prim.Native.Nat.{ℕ, ◌+◌, ◌-◌, ◌*◌, ◌^◌, ◌≤◌, ◌<◌, min}
@@ -8,8 +9,6 @@ use borrow.Author.Tests.{leb-true, le-leb, eqb-true, eqb-false, eq-eqb, ltb-true
 use Rattle.refusals.specs.Ranges.{counter_ok}
 use Rattle.refusals.proofs.Clauses.{either, or}
 use Rattle.refusals.proofs.PickedByTest.{picked}
-use Rattle.refusals.specs.declared.option.OptionU64.{OptionU64}
-use Rattle.refusals.specs.declared.option.OptionU64.TheVariants.{None, Some}
 use Rattle.gaps.specs.Gaps.{max_length, max_counter, finished_bursts, keeps_the_rule, fresh, gap_at, begins_burst, bursts_ok, next_after, expecting, burst_recorded, burst_finished, gap_counted, gap_observed, tracked_after, observed}
 use Rattle.gaps.specs.Stats.{stats_of}
 use Rattle.gaps.specs.declared.GapTracker.{GapTracker}
@@ -102,7 +101,7 @@ pub observed_keeps_rule : (t : GapTracker) (counter : ℕ) → keeps_the_rule t 
 unfolding observed
 observed_keeps_rule t counter h f b = keeps _ (go t.expected_next (room_asked t counter b))
   where
-    go : (due : OptionU64) → (t.in_burst ≡ false → 1 ≤ gap_at due counter → t.burst_count + 1 < 2 ^ 32) → Kept (tracked_after due t counter)
+    go : (due : Option ℕ) → (t.in_burst ≡ false → 1 ≤ gap_at due counter → t.burst_count + 1 < 2 ^ 32) → Kept (tracked_after due t counter)
     go None room = expecting_kept t (min (counter + 1) max_counter) (kept t h)
     go (Some expected) room = expecting_kept (gap_observed t (counter - expected)) (next_after expected counter) (gap_observed_kept t (counter - expected) (kept t h) f room)
 
@@ -123,7 +122,7 @@ pub observed_fits : (t : GapTracker) (counter : ℕ) → Fits t → Fits (observ
 unfolding observed
 observed_fits t counter f = go t.expected_next
   where
-    go : (due : OptionU64) → Fits (tracked_after due t counter)
+    go : (due : Option ℕ) → Fits (tracked_after due t counter)
     go None = f
     go (Some expected) = gap_observed_fits t (counter - expected) f
 

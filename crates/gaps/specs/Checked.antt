@@ -1,13 +1,33 @@
 -- The tracker's calls behind their questions: document 01, "Before any figure: the checks". Definitions only.
-use Rattle.std.specs.Prelude.{cond, [], ◌∷◌, ℕ, eqb}
+use Rattle.std.specs.Prelude.{cond, [], ◌∷◌, ℕ, eqb, Result}
+use Rattle.refusals.specs.Answers.{settled, settled_with}
 use Rattle.refusals.specs.Questions.{question, first_no}
+use Rattle.refusals.specs.declared.refusal.Refused.{Refused}
 use Rattle.gaps.specs.Gaps.{keeps_the_rule, bursts_ok, burst_finished, observed}
 use Rattle.gaps.specs.Stats.{stats_of}
+use Rattle.gaps.specs.declared.Arrival.{Arrival}
 use Rattle.gaps.specs.declared.Arrival.TheVariants.{First}
 use Rattle.gaps.specs.declared.GapTracker.{GapTracker}
-use Rattle.gaps.specs.declared.checked.GapObserved.{GapObserved}
-use Rattle.gaps.specs.declared.checked.GapUpdate.{GapUpdate}
-use Rattle.gaps.specs.declared.checked.GapStats.{GapStats}
+use Rattle.gaps.specs.declared.checked.BurstStats.{BurstStats}
+
+-- where the frame observed stands, `First` beside a refusal, and the tracker after it
+pub record GapObserved : Type 0 where
+  pub refusal : ℕ
+  pub arrival : Arrival
+  pub tracker : GapTracker
+
+-- a tracker after a call that may refuse
+pub record GapUpdate : Type 0 where
+  pub refusal : ℕ
+  pub tracker : GapTracker
+
+-- an interval's bursts, 0 beside a refusal, and the tracker for the next interval
+pub record GapStats : Type 0 where
+  pub refusal : ℕ
+  pub count : ℕ
+  pub max : ℕ
+  pub mean : ℕ
+  pub tracker : GapTracker
 
 -- question 1 alone
 unfoldable pub refusal_of : GapTracker → ℕ
@@ -41,3 +61,13 @@ taken_by n t =
 
 unfoldable pub take_of : GapTracker → GapStats
 take_of t = taken_by (refusal_of t) t
+
+-- ---- the same as the calls' results
+abbrev pub observed_as : GapObserved → Result (GapTracker × Arrival) (Refused GapTracker)
+observed_as o = settled_with o.refusal o.tracker o.arrival
+
+abbrev pub finished_as : GapUpdate → Result GapTracker (Refused GapTracker)
+finished_as u = settled (record { refusal = u.refusal; state = u.tracker })
+
+abbrev pub taken_as : GapStats → Result (GapTracker × BurstStats) (Refused GapTracker)
+taken_as s = settled_with s.refusal s.tracker (record { count = s.count; max = s.max; mean = s.mean })

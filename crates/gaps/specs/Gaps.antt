@@ -1,9 +1,7 @@
 -- Gaps in the counters as bursts of lost frames: document 01, "Jitter, delay trend and bursts", document 02, W-201 and W-203, and receiver.rs, `GapTracker`.
 -- Definitions only.
-use Rattle.std.specs.Prelude.{Bool, true, false, cond, not, ◌&&◌, ◌||◌, ℕ, ◌+◌, ◌-◌, ◌*◌, ◌^◌, min, max, leb, ltb, eqb}
+use Rattle.std.specs.Prelude.{Bool, true, false, cond, not, ◌&&◌, ◌||◌, ℕ, ◌+◌, ◌-◌, ◌*◌, ◌^◌, min, max, leb, ltb, eqb, None, Option, Some}
 use Rattle.refusals.specs.Ranges.{counter_ok}
-use Rattle.refusals.specs.declared.option.OptionU64.{OptionU64}
-use Rattle.refusals.specs.declared.option.OptionU64.TheVariants.{None, Some}
 use Rattle.gaps.specs.declared.Arrival.{Arrival}
 use Rattle.gaps.specs.declared.Arrival.TheVariants.{First, InSequence, Gap, Behind}
 use Rattle.gaps.specs.declared.GapTracker.{GapTracker}
@@ -41,7 +39,7 @@ fresh =
 
 -- ---- the gap before a frame
 -- the frames missing before this counter; none before a first frame, one in order or a late one
-abbrev pub gap_at : OptionU64 → ℕ → ℕ
+abbrev pub gap_at : Option ℕ → ℕ → ℕ
 gap_at None counter = 0
 gap_at (Some expected) counter = counter - expected
 
@@ -63,7 +61,7 @@ unfoldable pub arrival_after : ℕ → ℕ → Arrival
 arrival_after expected counter = cond (ltb expected counter) (Gap (counter - expected)) (cond (ltb counter expected) (Behind (expected - counter)) InSequence)
 
 -- beside the expected counter, if there was one
-abbrev pub arrival_at : OptionU64 → ℕ → Arrival
+abbrev pub arrival_at : Option ℕ → ℕ → Arrival
 arrival_at None counter = First
 arrival_at (Some expected) counter = arrival_after expected counter
 
@@ -130,7 +128,7 @@ unfoldable pub gap_observed : GapTracker → ℕ → GapTracker
 gap_observed t gap = cond (eqb gap 0) (burst_finished t) (gap_counted t gap)
 
 -- the tracker after a frame of this counter, beside the expected one
-abbrev pub tracked_after : OptionU64 → GapTracker → ℕ → GapTracker
+abbrev pub tracked_after : Option ℕ → GapTracker → ℕ → GapTracker
 tracked_after None t counter = expecting t (min (counter + 1) max_counter)
 tracked_after (Some expected) t counter = expecting (gap_observed t (counter - expected)) (next_after expected counter)
 

@@ -8,10 +8,6 @@ ghost use Rattle.std.specs.Prelude.{◌≡◌};
 ghost use Rattle.gaps.specs.Gaps.{keeps_the_rule, finished_bursts, fresh, gap_at, begins_burst, bursts_ok, expecting, next_after, arrival_after, lost_before, burst_finished, gap_length, gap_counted, gap_observed, observed};
 ghost use Rattle.gaps.specs.Stats.{mean_burst, stats_of};
 
-use numbers::methods::{
-    max_u16, saturating_add_u16, saturating_add_u32, saturating_add_u64, saturating_sub_u64,
-};
-use refusals::option::OptionU64;
 use refusals::ranges::counter_u32_ok;
 
 // The greatest length of a burst.
@@ -21,8 +17,8 @@ pub const MAX_BURST_LEN: u64 = u16::MAX as u64;
 #[derive(Clone, Copy)]
 pub struct GapTracker {
     // Next expected counter value.
-    pub expected_next: OptionU64,
-    // Whether we are currently in a burst (gap).
+    pub expected_next: Option<u64>,
+    // Whether we are currently in a burst (gap). A flag beside the length and no Option: a call hands back, and replay prints, the length where it is off too.
     pub in_burst: bool,
     // Length of the current burst.
     pub current_burst_len: u16,
@@ -63,15 +59,11 @@ pub struct IntervalStats {
     pub tracker: GapTracker,
 }
 
-// The length that a gap adds. It stops before the cast, so that no bit is dropped.
+// The length that a gap adds. It stops where 16 bits do, so that no bit is dropped.
 fn gap_len(gap: u64) -> u16
     ensures { result ≡ gap_length gap }
 {
-    if gap <= MAX_BURST_LEN {
-        gap as u16
-    } else {
-        MAX_BURST_LEN as u16
-    }
+    u16::try_from(gap).unwrap_or(u16::MAX)
 }
 
 // The frames lost before such an arrival: what the Rust's `observe` answers.
@@ -79,10 +71,8 @@ pub fn lost_before(arrival: Arrival) -> u64
     ensures { result ≡ lost_before arrival }
 {
     match arrival {
-        Arrival::First => 0,
-        Arrival::InSequence => 0,
         Arrival::Gap(missing) => missing,
-        Arrival::Behind(_late) => 0,
+        Arrival::First | Arrival::InSequence | Arrival::Behind(_) => 0,
     }
 }
 
@@ -106,23 +96,20 @@ fn next_after(expected: u64, counter: u64) -> u64
     ensures { result ≡ next_after expected counter }
 {
     if expected <= counter {
-        saturating_add_u64(counter, 1)
+        counter.saturating_add(1)
     } else {
         expected
     }
 }
 
 // The frames missing before this counter, if one was expected.
-fn gap_at(expected_next: OptionU64, counter: u64) -> u64
+fn gap_at(expected_next: Option<u64>, counter: u64) -> u64
     ensures { result ≡ gap_at expected_next counter }
 {
-    match expected_next {
-        OptionU64::None => 0,
-        OptionU64::Some(expected) => saturating_sub_u64(counter, expected),
-    }
+    expected_next.map_or(0, |expected| counter.saturating_sub(expected))
 }
 
-// The mean length in 1/256 of a frame, by whole numbers. From 256 frames on it is past what 16 bits hold.
+// The mean length in 1/256 of a frame, by whole numbers. It stops at what 16 bits hold, and is past that wherever the product saturates.
 #[tactic(auto, unfolding(crate::specs::Stats::mean_burst))]
 pub fn mean_burst(total: u64, count: u32) -> u16
     ensures { result ≡ mean_burst total count }
@@ -130,19 +117,15 @@ pub fn mean_burst(total: u64, count: u32) -> u16
     if count == 0 {
         return 0;
     }
-    if 256 * count as u64 <= total {
-        return u16::MAX;
-    }
-    (256 * total / count as u64) as u16
+    u16::try_from(total.saturating_mul(256) / u64::from(count)).unwrap_or(u16::MAX)
 }
 
 impl GapTracker {
     pub fn new() -> GapTracker
         ensures { result ≡ fresh }
     {
-        let expected_next = OptionU64::None;
         GapTracker {
-            expected_next,
+            expected_next: None,
             in_burst: false,
             current_burst_len: 0,
             burst_count: 0,
@@ -157,7 +140,7 @@ impl GapTracker {
         ensures { result ≡ finished_bursts self }
     {
         if self.in_burst {
-            saturating_sub_u64(self.burst_count as u64, 1) as u32
+            self.burst_count.saturating_sub(1)
         } else {
             self.burst_count
         }
@@ -167,7 +150,7 @@ impl GapTracker {
     pub fn keeps_rule(self) -> bool
         ensures { result ≡ keeps_the_rule self }
     {
-        let most = MAX_BURST_LEN * self.finished_bursts() as u64;
+        let most = MAX_BURST_LEN * u64::from(self.finished_bursts());
         (self.in_burst | (self.current_burst_len == 0))
             & (!self.in_burst | (1 <= self.burst_count))
             & (self.total_burst_len <= most)
@@ -177,29 +160,22 @@ impl GapTracker {
     pub fn begins_burst(self, counter: u64) -> bool
         ensures { result ≡ begins_burst self counter }
     {
-        let expected_next = self.expected_next;
-        !self.in_burst & (1 <= gap_at(expected_next, counter))
+        !self.in_burst & (1 <= gap_at(self.expected_next, counter))
     }
 
     // Question 10, of the bursts: the count is raised only where this frame begins one.
     pub fn bursts_ok(self, counter: u64) -> bool
         ensures { result ≡ bursts_ok self counter }
     {
-        let begins = self.begins_burst(counter);
-        !begins | counter_u32_ok(self.burst_count, 1)
+        !self.begins_burst(counter) | counter_u32_ok(self.burst_count, 1)
     }
 
     fn expecting(self, next: u64) -> GapTracker
         ensures { result ≡ expecting self next }
     {
-        let expected_next = OptionU64::Some(next);
         GapTracker {
-            expected_next,
-            in_burst: self.in_burst,
-            current_burst_len: self.current_burst_len,
-            burst_count: self.burst_count,
-            max_burst_len: self.max_burst_len,
-            total_burst_len: self.total_burst_len,
+            expected_next: Some(next),
+            ..self
         }
     }
 
@@ -208,16 +184,17 @@ impl GapTracker {
     pub fn finish_burst_unchecked(self) -> GapTracker
         ensures { result ≡ burst_finished self }
     {
-        if self.in_burst {
-            let len = self.current_burst_len;
-            let mut t = self;
-            t.max_burst_len = max_u16(t.max_burst_len, len);
-            t.total_burst_len = saturating_add_u64(t.total_burst_len, len as u64);
-            t.in_burst = false;
-            t.current_burst_len = 0;
-            return t;
+        if !self.in_burst {
+            return self;
         }
-        self
+        let len = self.current_burst_len;
+        GapTracker {
+            in_burst: false,
+            current_burst_len: 0,
+            max_burst_len: self.max_burst_len.max(len),
+            total_burst_len: self.total_burst_len.saturating_add(u64::from(len)),
+            ..self
+        }
     }
 
     // A gap begins a burst, or extends the one under way.
@@ -225,15 +202,19 @@ impl GapTracker {
     fn count_gap(self, gap: u64) -> GapTracker
         ensures { result ≡ gap_counted self gap }
     {
-        let mut t = self;
         if self.in_burst {
-            t.current_burst_len = saturating_add_u16(self.current_burst_len, gap_len(gap));
-            return t;
+            GapTracker {
+                current_burst_len: self.current_burst_len.saturating_add(gap_len(gap)),
+                ..self
+            }
+        } else {
+            GapTracker {
+                in_burst: true,
+                current_burst_len: gap_len(gap),
+                burst_count: self.burst_count.saturating_add(1),
+                ..self
+            }
         }
-        t.in_burst = true;
-        t.current_burst_len = gap_len(gap);
-        t.burst_count = saturating_add_u32(self.burst_count, 1);
-        t
     }
 
     // A frame in order ends a burst.
@@ -253,19 +234,18 @@ impl GapTracker {
     pub fn observe_unchecked(self, counter: u64) -> Observed
         ensures { result ≡ observed self counter }
     {
-        let expected_next = self.expected_next;
-        match expected_next {
-            OptionU64::None => {
-                let arrival = Arrival::First;
-                let tracker = self.expecting(saturating_add_u64(counter, 1));
-                Observed { arrival, tracker }
-            }
-            OptionU64::Some(expected) => {
-                let arrival = arrival_after(expected, counter);
-                let lost = saturating_sub_u64(counter, expected);
+        match self.expected_next {
+            None => Observed {
+                arrival: Arrival::First,
+                tracker: self.expecting(counter.saturating_add(1)),
+            },
+            Some(expected) => {
+                let lost = counter.saturating_sub(expected);
                 let next = next_after(expected, counter);
-                let tracker = self.observe_gap(lost).expecting(next);
-                Observed { arrival, tracker }
+                Observed {
+                    arrival: arrival_after(expected, counter),
+                    tracker: self.observe_gap(lost).expecting(next),
+                }
             }
         }
     }
@@ -276,18 +256,16 @@ impl GapTracker {
         ensures { result ≡ stats_of self }
     {
         let ended = self.finish_burst_unchecked();
-        let count = ended.burst_count;
-        let max = ended.max_burst_len;
-        let mean = mean_burst(ended.total_burst_len, count);
-        let mut tracker = ended;
-        tracker.burst_count = 0;
-        tracker.max_burst_len = 0;
-        tracker.total_burst_len = 0;
         IntervalStats {
-            count,
-            max,
-            mean,
-            tracker,
+            count: ended.burst_count,
+            max: ended.max_burst_len,
+            mean: mean_burst(ended.total_burst_len, ended.burst_count),
+            tracker: GapTracker {
+                burst_count: 0,
+                max_burst_len: 0,
+                total_burst_len: 0,
+                ..ended
+            },
         }
     }
 }

@@ -1,4 +1,5 @@
 -- The difference D that history's exact side reads off two frames is that of `samples`, and so is the grace.
+use Rattle.std.specs.Prelude.{None, Option, Some}
 use mathlib.Core.Path.{◌≡◌, refl, ap, ◌∙◌}
 use mathlib.Core.Bool.{Bool, true, false, cond}
 use Prim.Native.Nat.{ℕ, suc, ◌+◌, ◌-◌, ◌%◌, ◌^◌, ◌≤◌, ◌<◌}
@@ -8,8 +9,6 @@ use lib.IntN.{ℤ, pos, negsuc, sub_ℕ, ◌+ℤ◌, ◌-ℤ◌, ◌*ℤ◌}
 use mir.Syntax.{w32}
 use mir.Val.{to_z}
 use borrow.Author.Tests.{ltb-true, ltb-false, lt-ltb, le-ltb}
-use Rattle.refusals.specs.declared.option.OptionU64.{OptionU64}
-use Rattle.refusals.specs.declared.option.OptionU64.TheVariants.{None, Some}
 use Rattle.samples.specs.Words as words
 use Rattle.samples.specs.Transit.{in_grace, transit}
 use Rattle.samples.proofs.Differences.{minus}
@@ -17,11 +16,11 @@ use Rattle.samples.proofs.Reduction.{modulo_below}
 use Rattle.history.specs.ExactJitter as exact
 
 -- the deadline as a record keeps it
-abbrev pub grace_in : OptionU64 → exact.Grace
+abbrev pub grace_in : Option ℕ → exact.Grace
 grace_in None = exact.no_grace
 grace_in (Some deadline) = exact.until deadline
 
-pub grace_agrees : (o : OptionU64) (now : ℕ) → exact.before_deadline (grace_in o) now ≡ in_grace o now
+pub grace_agrees : (o : Option ℕ) (now : ℕ) → exact.before_deadline (grace_in o) now ≡ in_grace o now
 unfolding exact.before_deadline
 grace_agrees None now = refl
 grace_agrees (Some deadline) now = refl

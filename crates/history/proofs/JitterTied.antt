@@ -1,5 +1,6 @@
 -- A receiver's scaled jitter is that of the differences which the calls on it gave, and so the jitter of every report that it builds stays near their exact
 -- average.
+use Rattle.std.specs.Prelude.{None, Option, Some}
 use mathlib.Core.Path.{◌≡◌, refl, sym, ap, ◌∙◌}
 use mathlib.Core.Bool.{Bool, true, false, cond, not}
 use mathlib.Core.List.{List, [], ◌∷◌, ◌++◌, map, append-nil, map-append, foldl-append}
@@ -12,8 +13,6 @@ use Rattle.numbers.specs.Jitter.{jitter_step, scaled_of, reported}
 use Rattle.numbers.specs.Signs.{as_unsigned}
 use Rattle.numbers.proofs.JitterStaysNear.{ReportedNear, reported_of_near}
 use Rattle.refusals.specs.Questions.{question}
-use Rattle.refusals.specs.declared.option.OptionU64.{OptionU64}
-use Rattle.refusals.specs.declared.option.OptionU64.TheVariants.{None, Some}
 use Rattle.refusals.proofs.FirstNoFound.{none_refuses}
 use Rattle.algorithms.specs.Jitter as jitters
 use Rattle.algorithms.specs.Jitter.{stepped, jitter_us_of}
@@ -23,7 +22,7 @@ use Rattle.algorithms.proofs.JitterKeepsRule.{scaled_at_most}
 use Rattle.algorithms.specs.declared.jitter.JitterEstimator.{JitterEstimator}
 use Rattle.samples.specs.Transit.{in_grace, transit, jitter_after}
 use Rattle.pace.specs.Updates.{cold_start_refusal, from_srtt, with_bounds}
-use Rattle.pace.specs.declared.Paced.{Paced}
+use Rattle.pace.specs.Updates.{Paced}
 use Rattle.receiver.specs.State.{keeps_the_rule, started_at, fresh, new_of, rekeyed, rekey_of}
 use Rattle.receiver.specs.Frames.{counted, timing_sampled, echo_if_sampled, pushes, with_sample, frame_of}
 use Rattle.receiver.specs.Reports.{built, some_built, none_built, report_of, report_refusal, built_of}
@@ -39,7 +38,7 @@ use Rattle.history.specs.NoCreep.{jitter_average}
 use Rattle.history.proofs.DifferencesAgree.{grace_in, grace_agrees, difference_agrees}
 
 -- the last sampled frame as the record has it
-abbrev pub last_in : OptionU64 → ℕ → exact.Last
+abbrev pub last_in : Option ℕ → ℕ → exact.Last
 last_in None timestamp = exact.no_frame
 last_in (Some recv) timestamp = exact.frame recv timestamp
 
@@ -91,7 +90,7 @@ scaled_more : (ds : List ℤ) (d : ℤ) → scaled (ds ++ d ∷ []) ≡ jitter_s
 scaled_more ds d = ap scaled_of (map-append nat_abs ds (d ∷ [])) ∙ foldl-append jitter_step 0 (map nat_abs ds) (nat_abs d ∷ [])
 
 -- the step that a frame's difference makes, from the frame before; without one there is none
-step_tied : (recv : OptionU64) (before timestamp now : ℕ) (j : JitterEstimator) (ds : List ℤ) → as_unsigned j.jitter_q4 ≡ scaled ds →
+step_tied : (recv : Option ℕ) (before timestamp now : ℕ) (j : JitterEstimator) (ds : List ℤ) → as_unsigned j.jitter_q4 ≡ scaled ds →
     as_unsigned (jitter_after j recv before timestamp now).jitter_q4 ≡ scaled (ds ++ exact.difference_from (last_in recv before) now timestamp)
 unfolding exact.difference_from stepped
 step_tied None before timestamp now j ds h = h ∙ ap scaled (sym (append-nil ds))

@@ -9,7 +9,7 @@ use lib.Dec.{eqb}
 use lib.IntN.{ℤ}
 use Rattle.refusals.proofs.PickedByTest.{picked}
 use Rattle.refusals.proofs.FirstNoFound.{none_refuses}
-use Rattle.refusals.specs.Answers.{answer_u64}
+use Rattle.refusals.specs.Answers.{answer}
 use Rattle.refusals.specs.Questions.{question}
 use Rattle.gaps.specs.Gaps as gaps
 use Rattle.receiver.specs.State.{grace, keeps_the_rule, refusal_of, clock_refusal, rekeyed, rekey_of}
@@ -17,7 +17,7 @@ use Rattle.receiver.specs.Frames.{counted, timing_sampled, echo_if_sampled, push
 use Rattle.receiver.specs.Reports.{none_built, report_of, built, report_refusal, built_of}
 use Rattle.receiver.specs.Pacing.{from_srtt_of, with_bounds_of, is_due, should_send_of}
 use Rattle.receiver.specs.declared.ReceiverState.{ReceiverState}
-use Rattle.receiver.specs.declared.reports.ReceiverReportBuilt.{ReceiverReportBuilt}
+use Rattle.receiver.specs.Reports.{ReceiverReportBuilt}
 use Rattle.history.specs.Answers.{Answer}
 use Rattle.history.specs.ReceiverCalls.{ReceiverQuestion, receiver_told, Frame, ReceiverCall, framing, receiver_step}
 use Rattle.history.specs.Ends.{End, EndCall, on_receiver, end_step, Log, at}
@@ -30,7 +30,7 @@ use Rattle.history.proofs.NoCreepHolds.{held, every}
 -- ---- the list
 offered : (c : EndCall) (x : Log) (e : End) → keeps_the_rule e.receiver ≡ true → e.receiver.interval_max_lateness ≡ greatest (late.latenesses x.receiver) →
     c ≡ on_receiver late.ask_lateness → late.Offered x.receiver (end_step c e).refusal (end_step c e).answer
-unfolding receiver_step receiver_told refusal_of answer_u64
+unfolding receiver_step receiver_told refusal_of answer
 offered c x e rule lateness ask =
     rw ask (let none = none_refuses (question 1 (keeps_the_rule e.receiver) ∷ []) (rule, tt) in record { accepted = none; value = rw (none, lateness) refl })
 

@@ -1,4 +1,5 @@
 -- A receiver's greatest lateness is that of the frames which the calls on it brought since the last report or rekey, and the expected counter follows the highest.
+use Rattle.std.specs.Prelude.{None, Option, Some}
 use mathlib.Core.Path.{◌≡◌, refl, ap, ◌∙◌}
 use mathlib.Core.Bool.{Bool, true, false, cond, true≢false}
 use mathlib.Core.List.{List, [], ◌∷◌, ◌++◌}
@@ -8,8 +9,6 @@ use lib.Dec.{ltb, eqb}
 use lib.IntN.{ℤ}
 use borrow.Author.Tests.{ltb-true, eqb-false}
 use Rattle.refusals.proofs.PickedByTest.{picked}
-use Rattle.refusals.specs.declared.option.OptionU64.{OptionU64}
-use Rattle.refusals.specs.declared.option.OptionU64.TheVariants.{None, Some}
 use Rattle.algorithms.specs.Owd.{window}
 use Rattle.algorithms.specs.OwdTrend.{trend_of}
 use Rattle.gaps.specs.Gaps as gaps
@@ -18,7 +17,7 @@ use Rattle.gaps.proofs.DueFollows.{due_follows}
 use Rattle.gaps.specs.declared.Arrival.TheVariants.{Gap, Behind, InSequence}
 use Rattle.gaps.specs.declared.GapTracker.{GapTracker}
 use Rattle.pace.specs.Updates.{cold_start_refusal, from_srtt, with_bounds}
-use Rattle.pace.specs.declared.Paced.{Paced}
+use Rattle.pace.specs.Updates.{Paced}
 use Rattle.receiver.specs.State.{keeps_the_rule, started_at, new_of, rekeyed, rekey_of}
 use Rattle.receiver.specs.Frames.{late_by, counted, timing_sampled, echo_if_sampled, pushes, with_sample, frame_of}
 use Rattle.receiver.specs.Reports.{some_built, none_built, built, report_refusal, built_of}
@@ -35,7 +34,7 @@ greatest_append [] ns = omega arith
 greatest_append (m ∷ ms) ns = let e = greatest_append ms ns in omega arith
 
 -- it raises the greatest so far to how far it is behind
-pub raised : (o : OptionU64) (counter most : ℕ) → max most (late_by (gaps.arrival_at o counter)) ≡ greatest (most ∷ behind (late.due_in o) counter)
+pub raised : (o : Option ℕ) (counter most : ℕ) → max most (late_by (gaps.arrival_at o counter)) ≡ greatest (most ∷ behind (late.due_in o) counter)
 unfolding greatest behind gaps.arrival_after
 raised None counter most = omega arith
 raised (Some expected) counter most = go (ltb expected counter) (ltb counter expected) (ltb-true expected counter) (ltb-true counter expected)
@@ -47,12 +46,12 @@ raised (Some expected) counter most = go (ltb expected counter) (ltb counter exp
     go false true a b = omega arith
     go false false a b = omega arith
 
-raised_more : (o : OptionU64) (counter most : ℕ) (ns : List ℕ) → most ≡ greatest ns → max most (late_by (gaps.arrival_at o counter)) ≡ greatest (behind (late.due_in o) counter ++ ns)
+raised_more : (o : Option ℕ) (counter most : ℕ) (ns : List ℕ) → most ≡ greatest ns → max most (late_by (gaps.arrival_at o counter)) ≡ greatest (behind (late.due_in o) counter ++ ns)
 unfolding greatest
 raised_more o counter most ns e = let r = raised o counter most in let a = greatest_append (behind (late.due_in o) counter) ns in omega arith
 
 -- the counter expected next follows the highest
-due_next : (o : OptionU64) (h : late.Highest) (t : GapTracker) (counter : ℕ) → late.due_in o ≡ late.due_after h →
+due_next : (o : Option ℕ) (h : late.Highest) (t : GapTracker) (counter : ℕ) → late.due_in o ≡ late.due_after h →
     late.due_in (gaps.tracked_after o t counter).expected_next ≡ late.due_after (late.highest_by (late.arrived counter) h)
 due_next None late.no_frame t counter e = refl
 due_next None (late.highest n) t counter e = let z : ◌≡◌ {A = ℕ} 0 1 = cc in absurd (omega arith)

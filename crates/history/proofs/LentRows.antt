@@ -10,7 +10,7 @@ use base.Logic.{ent}
 use borrow.Author.Tests.{eq-eqb, ne_eqb}
 use borrow.Fn.World.{World, Pr}
 use contract.Monad.{fact, fact_mono}
-use Rattle.refusals.specs.Answers.{answer_u64}
+use Rattle.refusals.specs.Answers.{answer}
 use Rattle.refusals.specs.Questions.{question, first_no}
 use Rattle.wire.specs.declared.sender_report.SenderReport.{SenderReport}
 use Rattle.sender.specs.State.{keeps_the_rule, refusal_of}
@@ -40,7 +40,7 @@ none_refused true = refl
 none_refused false = refl
 
 checked : (status : ℕ) (s : SenderState) → status ≡ refusal_of s → Checked status s
-unfolding sender_step sender_told refusal_of answer_u64
+unfolding sender_step sender_told refusal_of answer
 checked status s e = record { rule = ap (λ b. Answer.told (Fact.yes_or_no b)) (ap (λ n. eqb n 0) e ∙ none_refused (keeps_the_rule s)); refusal = e }
 
 pub siwolkert_sender_check_row : (κs : _) (a : _) (r : _) (s : _) →

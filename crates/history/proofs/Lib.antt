@@ -23,6 +23,8 @@ pub mod LogSaid
 pub mod WideRefused
 pub mod LatenessHolds
 pub mod ExampleComputed
+pub mod ResultsReadTrue
+pub mod RefusalsKnown
 pub mod SenderRows
 pub mod ReceiverRows
 pub mod MetricsRows

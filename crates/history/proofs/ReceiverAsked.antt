@@ -8,7 +8,7 @@ use lib.Dec.{eqb}
 use lib.IntN.{ℤ}
 use lib.ListN.{take, drop}
 use Rattle.refusals.proofs.Clauses.{left, right}
-use Rattle.refusals.specs.Answers.{answer_u32, answer_u64, answer_option_u64}
+use Rattle.refusals.specs.Answers.{answer}
 use Rattle.refusals.specs.Questions.{question, first_no}
 use Rattle.refusals.specs.Ranges.{clock_ok, delay_ok}
 use Rattle.algorithms.specs.Owd as owds
@@ -123,7 +123,7 @@ module _ (s : ReceiverState) (rule : keeps_the_rule s ≡ true) (capacity : ℕ)
   asks_rule = rw rule never_refused
 
   told_lawful : (q : ReceiverQuestion) → Lawful (paper.receiver_told q) (receiver_told q s).refusal
-  unfolding first_no receiver_told should_send_of clock_refusal answer_u32 answer_u64 answer_option_u64
+  unfolding first_no receiver_told should_send_of clock_refusal answer
   told_lawful (ReceiverQuestion.should_send_report now) = rw rule (behind_rule (paper.ask 2 (paper.clock now) ∷ []) [] refl)
   told_lawful ReceiverQuestion.keeps_rule = never_refused
   told_lawful ReceiverQuestion.cumulative_packets_recv = asks_rule

@@ -16,19 +16,19 @@ use Rattle.sender.specs.Backoff as backoff
 use Rattle.sender.specs.Pacing as sender-pacing
 use Rattle.sender.specs.Reports as sender
 use Rattle.sender.specs.declared.SenderState.{SenderState}
-use Rattle.sender.specs.declared.reports.SenderReportBuilt.{SenderReportBuilt}
+use Rattle.sender.specs.Reports.{SenderReportBuilt}
 use Rattle.sender.proofs.RuleKept as sender_rule_lem
 use Rattle.receiver.specs.State as receiver-state
 use Rattle.receiver.specs.Frames as frames
 use Rattle.receiver.specs.Pacing as receiver-pacing
 use Rattle.receiver.specs.Reports as receiver
 use Rattle.receiver.specs.declared.ReceiverState.{ReceiverState}
-use Rattle.receiver.specs.declared.reports.ReceiverReportBuilt.{ReceiverReportBuilt}
+use Rattle.receiver.specs.Reports.{ReceiverReportBuilt}
 use Rattle.receiver.proofs.RuleKept as receiver_rule_lem
 use Rattle.metrics.specs.Reports as reports
 use Rattle.metrics.specs.Updates as updates
 use Rattle.metrics.specs.declared.MmpMetrics.{MmpMetrics}
-use Rattle.metrics.specs.declared.ReportProcessed.{ReportProcessed}
+use Rattle.metrics.specs.Reports.{ReportProcessed}
 use Rattle.metrics.proofs.ReportsByCase.{process_refusal_lem, refused_is}
 use Rattle.history.specs.SenderCalls.{SenderCall, sender_step}
 use Rattle.history.specs.ReceiverCalls.{ReceiverCall, receiver_step}

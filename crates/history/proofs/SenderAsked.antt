@@ -2,7 +2,7 @@
 use mathlib.Core.Path.{◌≡◌, refl}
 use mathlib.Core.Bool.{true, ◌&&◌}
 use mathlib.Core.List.{[], ◌∷◌}
-use Rattle.refusals.specs.Answers.{answer_u32, answer_u64, answer_f64}
+use Rattle.refusals.specs.Answers.{answer}
 use Rattle.refusals.specs.Questions.{question, first_no}
 use Rattle.refusals.specs.Ranges.{counter_ok}
 use Rattle.sender.specs.State.{keeps_the_rule, refusal_of}
@@ -24,7 +24,7 @@ module _ (s : SenderState) (rule : keeps_the_rule s ≡ true) where
   asks_rule = rw rule never_refused
 
   told_lawful : (q : SenderQuestion) → Lawful (paper.sender_told q) (sender_told q s).refusal
-  unfolding first_no sender_told should_send_of report_refusal answer_u32 answer_u64 answer_f64
+  unfolding first_no sender_told should_send_of report_refusal answer
   told_lawful (SenderQuestion.should_send_report now) = rw rule (behind_rule (paper.ask 2 (paper.clock now) ∷ []) [] refl)
   told_lawful SenderQuestion.send_failure_backoff_multiplier = asks_rule
   told_lawful SenderQuestion.keeps_rule = never_refused

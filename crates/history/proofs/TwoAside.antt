@@ -7,7 +7,7 @@ use mathlib.Core.List.{List, [], ◌∷◌}
 use Prim.Native.Nat.{ℕ, ◌+◌, ◌^◌}
 use native.Mathlib.Omega.{arith}
 use borrow.Author.Tests.{lt-ltb, ltb-true}
-use Rattle.refusals.specs.Answers.{answer_u64, answer_option_u32, answer_option_f64}
+use Rattle.refusals.specs.Answers.{answer}
 use Rattle.refusals.specs.Questions.{question, first_no}
 use Rattle.refusals.specs.Ranges.{optional_clock_ok, clock_ok, counter_ok}
 use Rattle.wire.specs.declared.receiver_report.ReceiverReport.{ReceiverReport}
@@ -40,7 +40,7 @@ use Rattle.metrics.specs.Accessors.{
   last_rtt_ms_of,
 }
 use Rattle.metrics.specs.declared.MmpMetrics.{MmpMetrics}
-use Rattle.metrics.specs.declared.ReportProcessed.{ReportProcessed}
+use Rattle.metrics.specs.Reports.{ReportProcessed}
 use Rattle.metrics.proofs.ReportsByCase.{process_refusal_lem, refused_is, stale_is, newer_is, by_case, by_reverse, traffic_leaves}
 use Rattle.metrics.proofs.TwoApart.{newer_apart, outcome_apart, rekeyed_apart, reversed_apart}
 use Rattle.history.specs.Answers.{Fact, Answer, Told}
@@ -152,7 +152,7 @@ module _ {d : ℕ} where
 
   -- ---- a question's answer does not change
   told_two : (q : MetricsQuestion) (m : MmpMetrics) (s v : ℕ) → Low d s v (tallies_in m) → metrics_told q (with_two m s v) ≡ metrics_told q m
-  unfolding metrics_told srtt_ms_of loss_rate_of smoothed_loss_of quality_index_of smoothed_etx_of goodput_bps_of last_ecn_ce_count_of rr_counters_of rtt_samples_of rtt_zero_of rtt_arith_fail_of no_echo_reports_of last_rtt_ms_of answer_option_f64 answer_option_u32 counters_kept
+  unfolding metrics_told srtt_ms_of loss_rate_of smoothed_loss_of quality_index_of smoothed_etx_of goodput_bps_of last_ecn_ce_count_of rr_counters_of rtt_samples_of rtt_zero_of rtt_arith_fail_of no_echo_reports_of last_rtt_ms_of answer counters_kept
   told_two MetricsQuestion.keeps_rule m s v h = rw (rule_two m s v h)
   told_two MetricsQuestion.srtt_ms m s v h = rw (refusal_two m s v h)
   told_two MetricsQuestion.loss_rate m s v h = rw (refusal_two m s v h)
@@ -170,7 +170,7 @@ module _ {d : ℕ} where
 
   -- ---- every call, on a record that has seen fewer
   two_refusal : (c : MetricsCall) (m : MmpMetrics) (s v : ℕ) → Low d s v (tallies_in m) → (metrics_step c m).refusal ≢ 10 → (metrics_step c (with_two m s v)).refusal ≡ (metrics_step c m).refusal
-  unfolding metrics_step rekey_of reverse_of reports_seen_of stale_reports_of answer_u64
+  unfolding metrics_step rekey_of reverse_of reports_seen_of stale_reports_of answer
   two_refusal (MetricsCall.process_receiver_report rr ours now) m s v h ne =
       process_refusal_lem (with_two m s v) rr ours now
       ∙ process_refusal_two m now s v h (λ e. ne (process_refusal_lem m rr ours now ∙ e))
@@ -183,11 +183,11 @@ module _ {d : ℕ} where
 
   -- reports seen and stale, where nothing refuses
   seen_told : (m : MmpMetrics) (s v : ℕ) → Low d s v (tallies_in m) → keeps_the_rule m ≡ true → (reports_seen_of (with_two m s v)).value + d ≡ (reports_seen_of m).value
-  unfolding reports_seen_of answer_u64 refusal_of first_no
+  unfolding reports_seen_of answer refusal_of first_no
   seen_told m s v h rule = rw (rule_two m s v h, rule) h.seen
 
   stale_told : (m : MmpMetrics) (s v : ℕ) → Low d s v (tallies_in m) → keeps_the_rule m ≡ true → (stale_reports_of (with_two m s v)).value + d ≡ (stale_reports_of m).value
-  unfolding stale_reports_of answer_u64 refusal_of first_no
+  unfolding stale_reports_of answer refusal_of first_no
   stale_told m s v h rule = rw (rule_two m s v h, rule) h.stale
 
   two_answer : (c : MetricsCall) (m : MmpMetrics) (s v : ℕ) → Low d s v (tallies_in m) → keeps_the_rule m ≡ true → (metrics_step c (with_two m s v)).refusal ≡ (metrics_step c m).refusal →

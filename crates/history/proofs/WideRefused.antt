@@ -4,7 +4,7 @@ use mathlib.Core.Logic.{◌≢◌}
 use mathlib.Core.Bool.{Bool, true, false}
 use Prim.Native.Nat.{ℕ, ◌<◌}
 use native.Mathlib.Omega.{arith}
-use Rattle.refusals.specs.Answers.{answer_u32, answer_u64, answer_option_u64}
+use Rattle.refusals.specs.Answers.{answer}
 use Rattle.refusals.specs.Questions.{first_no}
 use Rattle.algorithms.proofs.OwdRuleKept.{rule}
 use Rattle.pace.specs.Updates.{updated, from_srtt_refusal, from_srtt, with_bounds_refusal, with_bounds}
@@ -30,7 +30,7 @@ module _ (s : ReceiverState) (h : greatest_window < s.owd_trend.capacity) where
       go false k = refl
 
   told_by_rule : (q : ReceiverQuestion) → ReceiverCall.ask q ≢ wide.keeps_the_rule → (receiver_told q s).refusal ≡ 1
-  unfolding receiver_told should_send_of clock_refusal refusal_of first_no answer_u32 answer_u64 answer_option_u64
+  unfolding receiver_told should_send_of clock_refusal refusal_of first_no answer
   told_by_rule (ReceiverQuestion.should_send_report now) n = rw lawless refl
   told_by_rule ReceiverQuestion.keeps_rule n = absurd (n refl)
   told_by_rule ReceiverQuestion.cumulative_packets_recv n = rw lawless refl

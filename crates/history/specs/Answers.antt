@@ -1,8 +1,5 @@
 -- What the public calls of the three records answer beside a refusal and the record: one case for each kind of answer. Definitions only.
-use Rattle.std.specs.Prelude.{Bool, List, ℕ, ℤ, Float}
-use Rattle.refusals.specs.declared.option.OptionU32.{OptionU32}
-use Rattle.refusals.specs.declared.option.OptionU64.{OptionU64}
-use Rattle.refusals.specs.declared.option.OptionF64.{OptionF64}
+use Rattle.std.specs.Prelude.{Bool, List, ℕ, ℤ, Float, Option}
 use Rattle.wire.specs.declared.sender_report.SenderReport.{SenderReport}
 use Rattle.wire.specs.declared.receiver_report.ReceiverReport.{ReceiverReport}
 use Rattle.metrics.specs.declared.Outcome.{Outcome}
@@ -14,11 +11,11 @@ pub data Fact : Type 0 where
   yes_or_no : Bool → Fact
   number : ℕ → Fact
   float : Float → Fact
-  optional_number : OptionU64 → Fact
-  optional_word : OptionU32 → Fact
-  optional_float : OptionF64 → Fact
+  optional_number : Option ℕ → Fact
+  optional_word : Option ℕ → Fact
+  optional_float : Option Float → Fact
   -- counters of the report kept
-  counters : RrCounters → Fact
+  counters : Option RrCounters → Fact
 
 pub data Answer : Type 0 where
   nothing : Answer

@@ -1,8 +1,6 @@
 -- How late the latest frame of an interval was: document 02, W-203. By the list, it is read off the arguments of the calls on a receiver that were not refused, and no
 -- record; by one call, off the record that it gets. Definitions only.
-use Rattle.std.specs.Prelude.{◌≡◌, ◌≢◌, Bool, true, false, cond, List, [], ◌∷◌, ◌++◌, ℕ, ◌+◌, ◌-◌, min, max, ltb, ℤ}
-use Rattle.refusals.specs.declared.option.OptionU64.{OptionU64}
-use Rattle.refusals.specs.declared.option.OptionU64.TheVariants.{None, Some}
+use Rattle.std.specs.Prelude.{◌≡◌, ◌≢◌, Bool, true, false, cond, List, [], ◌∷◌, ◌++◌, ℕ, ◌+◌, ◌-◌, min, max, ltb, ℤ, None, Option, Some}
 use Rattle.wire.specs.declared.receiver_report.ReceiverReport.{ReceiverReport}
 use Rattle.receiver.specs.declared.ReceiverState.{ReceiverState}
 use Rattle.history.specs.Paper.{greatest_counter}
@@ -99,7 +97,7 @@ abbrev pub KeptHolds : Type 0
 KeptHolds = (k : Two EndNew) (h : List Call) → All (fits ends) (written k h) → Kept k h
 
 -- ---- the same of one call, on any record, from new or not
-abbrev pub due_in : OptionU64 → Due
+abbrev pub due_in : Option ℕ → Due
 due_in None = none_due
 due_in (Some expected) = due expected
 

@@ -2,6 +2,7 @@ pub mod Paper
 pub mod Run
 pub mod Answers
 pub mod Tellings
+pub mod ResultsRead
 pub mod SenderCalls
 pub mod ReceiverCalls
 pub mod MetricsCalls

@@ -22,7 +22,7 @@ use Rattle.metrics.specs.Accessors.{
   last_rtt_ms_of,
 }
 use Rattle.metrics.specs.declared.MmpMetrics.{MmpMetrics}
-use Rattle.metrics.specs.declared.MetricsUpdate.{MetricsUpdate}
+use Rattle.refusals.specs.Answers.{Update}
 use Rattle.history.specs.Run.{Step}
 use Rattle.history.specs.Answers.{Answer, Told, staying}
 use Rattle.history.specs.Tellings as told
@@ -66,7 +66,7 @@ pub data MetricsCall : Type 0 where
   ask : MetricsQuestion → MetricsCall
 
 -- a call that hands back a record and no more
-abbrev pub updating : MetricsUpdate → Step Answer MmpMetrics
+abbrev pub updating : Update MmpMetrics → Step Answer MmpMetrics
 updating u = record { refusal = u.refusal; answer = Answer.nothing; state = u.state }
 
 unfoldable pub metrics_step : MetricsCall → MmpMetrics → Step Answer MmpMetrics

@@ -5,7 +5,7 @@ use Rattle.receiver.specs.Frames.{frame_of, frame_times, frame_delays}
 use Rattle.receiver.specs.Reports.{built_of}
 use Rattle.receiver.specs.Pacing.{from_srtt_of, with_bounds_of, should_send_of}
 use Rattle.receiver.specs.declared.ReceiverState.{ReceiverState}
-use Rattle.receiver.specs.declared.ReceiverUpdate.{ReceiverUpdate}
+use Rattle.refusals.specs.Answers.{Update}
 use Rattle.history.specs.Run.{Step}
 use Rattle.history.specs.Answers.{Answer, Told, staying}
 use Rattle.history.specs.Tellings as told
@@ -71,7 +71,7 @@ framing f sampled s =
     }
 
 -- a call that hands back a record and no more
-abbrev pub updating : ReceiverUpdate → Step Answer ReceiverState
+abbrev pub updating : Update ReceiverState → Step Answer ReceiverState
 updating u = record { refusal = u.refusal; answer = Answer.nothing; state = u.state }
 
 unfoldable pub receiver_step : ReceiverCall → ReceiverState → Step Answer ReceiverState

@@ -1,9 +1,8 @@
 -- What a rekey does to a metrics record: document 01, "Round trip, ratios and trends", "Rekey clears the saved counters and sets the forward ratio to 1; ETX and
 -- every other figure stay". Definitions only.
-use Rattle.std.specs.Prelude.{◌≡◌, false, pos}
+use Rattle.std.specs.Prelude.{◌≡◌, false, pos, None}
 use Rattle.std.specs.Float.{binary64}
 use Rattle.std.specs.Float.Ieee.{of_int}
-use Rattle.refusals.specs.declared.option.OptionU64.TheVariants.{None}
 use Rattle.metrics.specs.declared.MmpMetrics.{MmpMetrics}
 use Rattle.history.specs.MetricsCalls.{MetricsCall, metrics_step}
 

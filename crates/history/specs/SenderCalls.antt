@@ -6,7 +6,7 @@ use Rattle.sender.specs.Reports.{built_of}
 use Rattle.sender.specs.Backoff.{failure_of, success_of, multiplier_of}
 use Rattle.sender.specs.Pacing.{from_srtt_of, with_bounds_of, should_send_of}
 use Rattle.sender.specs.declared.SenderState.{SenderState}
-use Rattle.sender.specs.declared.SenderUpdate.{SenderUpdate}
+use Rattle.refusals.specs.Answers.{Update}
 use Rattle.history.specs.Run.{Step}
 use Rattle.history.specs.Answers.{Fact, Answer, Told, staying}
 use Rattle.history.specs.Tellings as told
@@ -47,7 +47,7 @@ pub data SenderCall : Type 0 where
   ask : SenderQuestion → SenderCall
 
 -- a call that hands back a record and no more
-abbrev pub updating : SenderUpdate → Step Answer SenderState
+abbrev pub updating : Update SenderState → Step Answer SenderState
 updating u = record { refusal = u.refusal; answer = Answer.nothing; state = u.state }
 
 unfoldable pub sender_step : SenderCall → SenderState → Step Answer SenderState

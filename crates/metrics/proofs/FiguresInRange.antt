@@ -1,4 +1,5 @@
 -- Every figure of the record is an f64 in its range, and stays so through a rekey and an update of the reverse ratio.
+use Rattle.std.specs.Prelude.{Option}
 use mathlib.Core.Path.{◌≡◌, refl}
 use mathlib.Core.Bool.{true}
 use Prim.Native.Nat.{ℕ, ◌-◌, ◌^◌, ◌≤◌, ◌<◌}
@@ -13,7 +14,6 @@ use Rattle.floats.proofs.Order.{le_transitive}
 use Rattle.floats.proofs.Ranges.{Within, within→in_range, in_range→within}
 use Rattle.floats.proofs.Complements.{complement_within}
 use Rattle.refusals.specs.Ranges.{max_trend, max_etx, optional_clock_ok}
-use Rattle.refusals.specs.declared.option.OptionU64.{OptionU64}
 use Rattle.algorithms.specs.Etx.{etx_of}
 use Rattle.algorithms.specs.Ewma as ewma
 use Rattle.algorithms.specs.Srtt as estimator
@@ -112,7 +112,7 @@ pub record RatiosInRange (r : Ratios) : Type 0 where
   pub etx : Etx r.etx
   pub goodput : Goodput r.goodput
 
-pub record GroupsInRange (ms : OptionU64) (r : Rtt) (t : Trends) (q : Ratios) : Type 0 where
+pub record GroupsInRange (ms : Option ℕ) (r : Rtt) (t : Trends) (q : Ratios) : Type 0 where
   pub clock : optional_clock_ok ms ≡ true
   pub rtt : RttInRange r
   pub trends : TrendsInRange t

@@ -13,7 +13,7 @@ use Rattle.metrics.specs.State.{saved_in}
 use Rattle.metrics.specs.Updates.{with_reverse_ratio, reverse_moved}
 use Rattle.metrics.specs.Reports.{counted, with_forward, delivery_updated, with_bytes, goodput_updated, jitter_trend_updated, counters_saved, traffic_updated, newer_report, stale_report, processed, process_refusal, refused, process_of}
 use Rattle.metrics.specs.declared.MmpMetrics.{MmpMetrics}
-use Rattle.metrics.specs.declared.ReportProcessed.{ReportProcessed}
+use Rattle.metrics.specs.Reports.{ReportProcessed}
 
 -- ---- by the questions, and by the stale test
 module _ (m : MmpMetrics) (rr : ReceiverReport) (ours now : ℕ) where

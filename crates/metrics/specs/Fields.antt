@@ -1,7 +1,5 @@
 -- The fields of the metrics' record in groups, and the record with one group set: the other groups stay. Definitions only.
-use Rattle.std.specs.Prelude.{Bool, ℕ, ◌+◌, Float}
-use Rattle.refusals.specs.declared.option.OptionU32.{OptionU32}
-use Rattle.refusals.specs.declared.option.OptionU64.{OptionU64}
+use Rattle.std.specs.Prelude.{Bool, ℕ, ◌+◌, Float, Option}
 use Rattle.algorithms.specs.declared.ewma.DualEwma.{DualEwma}
 use Rattle.algorithms.specs.declared.srtt.SrttEstimator.{SrttEstimator}
 use Rattle.figures.specs.declared.Counters.{Counters}
@@ -12,7 +10,7 @@ use Rattle.metrics.specs.declared.MmpMetrics.{MmpMetrics}
 pub record Rtt : Type 0 where
   pub estimator : SrttEstimator
   pub trend : DualEwma
-  pub last : OptionU32
+  pub last : Option ℕ
 
 -- the other trends
 pub record Trends : Type 0 where
@@ -31,7 +29,7 @@ pub record Ratios : Type 0 where
 -- the counters kept of a report, its time, and whether there is one
 pub record KeptReport : Type 0 where
   pub counters : Counters
-  pub ms : OptionU64
+  pub ms : Option ℕ
   pub has : Bool
 
 -- the reverse side's packets and highest counter, and whether there are any

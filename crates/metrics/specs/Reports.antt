@@ -1,12 +1,12 @@
 -- A receiver report processed, in the order of `process_receiver_report`: document 01, "Round trip, ratios and trends". Definitions only.
-use Rattle.std.specs.Prelude.{Bool, true, false, cond, not, ◌&&◌, [], ◌∷◌, ℕ, ◌+◌, ◌-◌, ◌^◌, ◌<◌, eqb, ltb, pos, Float}
+use Rattle.std.specs.Prelude.{Bool, true, false, cond, not, ◌&&◌, [], ◌∷◌, ℕ, ◌+◌, ◌-◌, ◌^◌, ◌<◌, eqb, ltb, pos, Float, Some, Result}
 use Rattle.std.specs.Float.{binary64}
 use Rattle.std.specs.Float.Ieee.{of_int}
 use Rattle.floats.specs.Operations.{complement}
+use Rattle.refusals.specs.Answers.{settled_with}
 use Rattle.refusals.specs.Questions.{question, first_no}
+use Rattle.refusals.specs.declared.refusal.Refused.{Refused}
 use Rattle.refusals.specs.Ranges.{clock_ok, counter_ok}
-use Rattle.refusals.specs.declared.option.OptionU32.TheVariants as optionU32
-use Rattle.refusals.specs.declared.option.OptionU64.TheVariants as optionU64
 use Rattle.wire.specs.declared.receiver_report.ReceiverReport.{ReceiverReport}
 use Rattle.algorithms.specs.Etx.{etx_of}
 use Rattle.algorithms.specs.Ewma as ewma
@@ -21,9 +21,14 @@ use Rattle.metrics.specs.Fields.{with_rtt, with_trends, with_ratios, with_kept, 
 use Rattle.metrics.specs.State.{keeps_the_rule, saved_in}
 use Rattle.metrics.specs.declared.MmpMetrics.{MmpMetrics}
 use Rattle.metrics.specs.declared.Outcome.{Outcome}
-use Rattle.metrics.specs.declared.ReportProcessed.{ReportProcessed}
 use Rattle.metrics.specs.declared.RrLog.{RrLog}
 use Rattle.metrics.specs.declared.RrLog.TheVariants as log
+
+-- a report's refusal, the record after it, and what became of the report
+pub record ReportProcessed : Type 0 where
+  pub refusal : ℕ
+  pub state : MmpMetrics
+  pub outcome : Outcome
 
 -- ---- reports seen, stale ones too
 unfoldable pub counted : MmpMetrics → MmpMetrics
@@ -41,7 +46,7 @@ sampled m ms =
     (with_rtt m (record {
       estimator = estimator.stepped m.srtt (pos (sample_us ms));
       trend = ewma.stepped m.rtt_trend (of_int binary64 (pos (sample_us ms)));
-      last = optionU32.Some ms;
+      last = Some ms;
     }))
     (one_sample (tallies_in m))
 
@@ -110,7 +115,7 @@ jitter_trend_updated m rr =
 
 -- ---- the saved counters, with the report's time
 unfoldable pub counters_saved : MmpMetrics → ReceiverReport → ℕ → MmpMetrics
-counters_saved m rr now = with_kept m (record { counters = counters_of rr; ms = optionU64.Some now; has = true })
+counters_saved m rr now = with_kept m (record { counters = counters_of rr; ms = Some now; has = true })
 
 -- ---- the whole, of a record whose report is counted
 -- what follows the round trip
@@ -151,3 +156,7 @@ refused n m = answered n m (outcome_of false log.None)
 
 unfoldable pub process_of : MmpMetrics → ReceiverReport → ℕ → ℕ → ReportProcessed
 process_of m rr ours now = cond (eqb (process_refusal m now) 0) (processed (counted m) rr ours now) (refused (process_refusal m now) m)
+
+-- the same as the call's result
+abbrev pub reported : ReportProcessed → Result (MmpMetrics × Outcome) (Refused MmpMetrics)
+reported p = settled_with p.refusal p.state p.outcome

@@ -1,10 +1,9 @@
 -- The metrics' record, its rule and what a new one holds: document 01, "State rule", and metrics.rs. Definitions only.
-use Rattle.std.specs.Prelude.{Bool, false, cond, ◌&&◌, [], ◌∷◌, ℕ, eqb}
+use Rattle.std.specs.Prelude.{Bool, false, cond, ◌&&◌, [], ◌∷◌, ℕ, eqb, None}
 use Rattle.floats.specs.Operations.{zero_float, one_float}
+use Rattle.refusals.specs.Answers.{Update}
 use Rattle.refusals.specs.Questions.{question, first_no}
 use Rattle.refusals.specs.Ranges.{optional_clock_ok, ratio_ok, etx_ok}
-use Rattle.refusals.specs.declared.option.OptionU32.TheVariants as optionU32
-use Rattle.refusals.specs.declared.option.OptionU64.TheVariants as optionU64
 use Rattle.algorithms.specs.Ewma as ewma
 use Rattle.algorithms.specs.Srtt as estimator
 use Rattle.figures.specs.Goodput.{goodput_ok}
@@ -12,7 +11,6 @@ use Rattle.figures.specs.RoundTrips.{tallies_ok}
 use Rattle.figures.specs.Stale.{Saved, none, saved}
 use Rattle.metrics.specs.Fields.{counters_in}
 use Rattle.metrics.specs.declared.MmpMetrics.{MmpMetrics}
-use Rattle.metrics.specs.declared.MetricsUpdate.{MetricsUpdate}
 
 -- ---- the rule: document 01, "State rule"
 -- the five trends are 0 to 2^64
@@ -60,7 +58,7 @@ fresh =
       prev_rr_highest_counter = 0;
       prev_rr_ecn_ce = 0;
       prev_rr_reorder = 0;
-      prev_rr_ms = optionU64.None;
+      prev_rr_ms = None;
       has_prev_rr = false;
       prev_reverse_packets = 0;
       prev_reverse_highest = 0;
@@ -69,7 +67,7 @@ fresh =
       rtt_samples = 0;
       rtt_zero = 0;
       rtt_arith_fail = 0;
-      last_rtt_ms = optionU32.None;
+      last_rtt_ms = None;
       stale_reports = 0;
       no_echo_reports = 0;
     }
@@ -85,5 +83,5 @@ unfoldable pub refusal_of : MmpMetrics → ℕ
 refusal_of m = first_no (question 1 (keeps_the_rule m) ∷ [])
 
 -- a call on m whose refusal is n and that moves the state to t: the state as given on a refusal
-abbrev pub updated : ℕ → MmpMetrics → MmpMetrics → MetricsUpdate
+abbrev pub updated : ℕ → MmpMetrics → MmpMetrics → Update MmpMetrics
 updated n m t = record { refusal = n; state = cond (eqb n 0) t m }

@@ -1,14 +1,13 @@
 -- A rekey and the reverse side, as metrics.rs has them: document 01, "Round trip, ratios and trends". Definitions only.
-use Rattle.std.specs.Prelude.{true, false, cond, ◌&&◌, ℕ, ◌-◌, ltb, Float}
+use Rattle.std.specs.Prelude.{true, false, cond, ◌&&◌, ℕ, ◌-◌, ltb, Float, None}
 use Rattle.floats.specs.Operations.{one_float}
-use Rattle.refusals.specs.declared.option.OptionU64.TheVariants.{None}
+use Rattle.refusals.specs.Answers.{Update}
 use Rattle.algorithms.specs.Etx.{etx_of}
 use Rattle.figures.specs.Delivery.{delivery_ratio}
 use Rattle.figures.specs.declared.Counters.{Counters}
 use Rattle.metrics.specs.Fields.{with_ratios, with_kept, with_reverse}
 use Rattle.metrics.specs.State.{refusal_of, updated}
 use Rattle.metrics.specs.declared.MmpMetrics.{MmpMetrics}
-use Rattle.metrics.specs.declared.MetricsUpdate.{MetricsUpdate}
 
 -- ---- a rekey
 -- no counter has moved
@@ -24,7 +23,7 @@ rekeyed m =
     (record { counters = no_counters; ms = None; has = false }))
     (record { packets = 0; highest = 0; has = false })
 
-unfoldable pub rekey_of : MmpMetrics → MetricsUpdate
+unfoldable pub rekey_of : MmpMetrics → Update MmpMetrics
 rekey_of m = updated (refusal_of m) m (rekeyed m)
 
 -- ---- the reverse side: what came to us of the frames that the peer sent
@@ -44,5 +43,5 @@ reverse_moved m packets highest =
 unfoldable pub reversed : MmpMetrics → ℕ → ℕ → MmpMetrics
 reversed m packets highest = with_reverse (reverse_moved m packets highest) (record { packets = packets; highest = highest; has = true })
 
-unfoldable pub reverse_of : MmpMetrics → ℕ → ℕ → MetricsUpdate
+unfoldable pub reverse_of : MmpMetrics → ℕ → ℕ → Update MmpMetrics
 reverse_of m packets highest = updated (refusal_of m) m (reversed m packets highest)

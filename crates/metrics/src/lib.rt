@@ -7,19 +7,20 @@ pub mod reports; // reports.rt: what a receiver report moves, and how it is proc
 pub mod accessors; // accessors.rt: the figures
 
 ghost use Rattle.std.specs.Prelude.{◌≡◌};
-ghost use Rattle.metrics.specs.State.{fresh, trends_ok, ratios_ok, keeps_the_rule, refusal_of};
+ghost use Rattle.refusals.specs.Answers.{passed, admitted};
+ghost use Rattle.metrics.specs.State.{fresh, trends_ok, ratios_ok, tallied, keeps_the_rule, refusal_of};
 
 use algorithms::ewma::DualEwma;
 use algorithms::srtt::SrttEstimator;
-use figures::{goodput_ok, tallies_ok};
-use refusals::option::{OptionU32, OptionU64};
+use figures::{Tallies, goodput_ok, tallies_ok};
 use refusals::questions::Questions;
 use refusals::ranges::{etx_ok, optional_clock_ok, ratio_ok};
+use refusals::refusal::{Refusal, Refused};
 
 // Which log entry applies to a report that was processed.
 #[derive(Clone, Copy)]
 pub enum RrLog {
-    // No RTT log point fires (the report carried no timestamp echo).
+    // No RTT log point fires (the report carried no timestamp echo). No Option of the others: the rules have this enum as a field of `Outcome`.
     None,
     // The report was ignored as stale or duplicate: the counters kept, for the operator.
     Stale {
@@ -69,8 +70,9 @@ pub struct MmpMetrics {
     pub prev_rr_ecn_ce: u32,
     pub prev_rr_reorder: u32,
     // Time of the previous report (for goodput rate).
-    pub prev_rr_ms: OptionU64,
-    // Whether there is a previous report.
+    pub prev_rr_ms: Option<u64>,
+    // Whether there is a previous report. A flag beside the numbers and no Option: a call hands back, and replay prints, what they hold where it is off too, and
+    // `last_ecn_ce_count` answers one of them whatever it says. The same of the reverse side below.
     pub has_prev_rr: bool,
     // --- State for reverse delivery ratio delta computation ---
     pub prev_reverse_packets: u64,
@@ -86,61 +88,32 @@ pub struct MmpMetrics {
     // Echoes whose arithmetic failed.
     pub rtt_arith_fail: u64,
     // The most recent accepted RTT in ms, which SRTT smooths away.
-    pub last_rtt_ms: OptionU32,
+    pub last_rtt_ms: Option<u32>,
     // Stale reports.
     pub stale_reports: u64,
     // Fresh reports whose echo was 0.
     pub no_echo_reports: u64,
 }
 
-// A state after a call that may refuse.
+// Highest counter, packets received and reorder count of a report.
 #[derive(Clone, Copy)]
-pub struct MetricsUpdate {
-    pub refusal: u8,
-    pub state: MmpMetrics,
-}
-
-// A state after a report, and what became of the report.
-#[derive(Clone, Copy)]
-pub struct ReportProcessed {
-    pub refusal: u8,
-    pub state: MmpMetrics,
-    pub outcome: Outcome,
-}
-
-// Highest counter, packets received and reorder count of a report that may be missing.
-#[derive(Clone, Copy)]
-pub enum RrCounters {
-    None,
-    Some(u64, u64, u32),
-}
-
-// What `rr_counters` answers.
-#[derive(Clone, Copy)]
-pub struct AnswerCounters {
-    pub refusal: u8,
-    pub value: RrCounters,
+pub struct RrCounters {
+    pub highest: u64,
+    pub packets: u64,
+    pub reorders: u32,
 }
 
 impl MmpMetrics {
     pub fn new() -> MmpMetrics
         ensures { result ≡ fresh }
     {
-        let srtt = SrttEstimator::new();
-        let rtt_trend = DualEwma::new();
-        let loss_trend = DualEwma::new();
-        let goodput_trend = DualEwma::new();
-        let jitter_trend = DualEwma::new();
-        let etx_trend = DualEwma::new();
-        let prev_rr_ms = OptionU64::None;
-        let last_rtt_ms = OptionU32::None;
         MmpMetrics {
-            srtt,
-            rtt_trend,
-            loss_trend,
-            goodput_trend,
-            jitter_trend,
-            etx_trend,
+            srtt: SrttEstimator::new(),
+            rtt_trend: DualEwma::new(),
+            loss_trend: DualEwma::new(),
+            goodput_trend: DualEwma::new(),
+            jitter_trend: DualEwma::new(),
+            etx_trend: DualEwma::new(),
             delivery_ratio_forward: 1.0,
             delivery_ratio_reverse: 1.0,
             etx: 1.0,
@@ -150,7 +123,7 @@ impl MmpMetrics {
             prev_rr_highest_counter: 0,
             prev_rr_ecn_ce: 0,
             prev_rr_reorder: 0,
-            prev_rr_ms,
+            prev_rr_ms: None,
             has_prev_rr: false,
             prev_reverse_packets: 0,
             prev_reverse_highest: 0,
@@ -159,16 +132,10 @@ impl MmpMetrics {
             rtt_samples: 0,
             rtt_zero: 0,
             rtt_arith_fail: 0,
-            last_rtt_ms,
+            last_rtt_ms: None,
             stale_reports: 0,
             no_echo_reports: 0,
         }
-    }
-
-    pub fn default() -> MmpMetrics
-        ensures { result ≡ fresh }
-    {
-        MmpMetrics::new()
     }
 
     // --- The state rule ---
@@ -177,52 +144,74 @@ impl MmpMetrics {
     fn trends_ok(self) -> bool
         ensures { result ≡ trends_ok self }
     {
-        let rtt = self.rtt_trend.keeps_rule();
-        let loss = self.loss_trend.keeps_rule();
-        let goodput = self.goodput_trend.keeps_rule();
-        let jitter = self.jitter_trend.keeps_rule();
-        let etx = self.etx_trend.keeps_rule();
-        rtt & loss & goodput & jitter & etx
+        self.rtt_trend.keeps_rule()
+            & self.loss_trend.keeps_rule()
+            & self.goodput_trend.keeps_rule()
+            & self.jitter_trend.keeps_rule()
+            & self.etx_trend.keeps_rule()
     }
 
     #[tactic(auto, unfolding(crate::specs::State::ratios_ok))]
     fn ratios_ok(self) -> bool
         ensures { result ≡ ratios_ok self }
     {
-        let forward = ratio_ok(self.delivery_ratio_forward);
-        let reverse = ratio_ok(self.delivery_ratio_reverse);
-        let etx = etx_ok(self.etx);
-        let goodput = goodput_ok(self.goodput_bps);
-        forward & reverse & etx & goodput
+        ratio_ok(self.delivery_ratio_forward)
+            & ratio_ok(self.delivery_ratio_reverse)
+            & etx_ok(self.etx)
+            & goodput_ok(self.goodput_bps)
     }
 
     #[tactic(auto, unfolding(crate::specs::State::keeps_the_rule))]
     pub fn keeps_rule(self) -> bool
         ensures { result ≡ keeps_the_rule self }
     {
-        let prev_rr_ms = self.prev_rr_ms;
-        let clock = optional_clock_ok(prev_rr_ms);
-        let round_trip = self.srtt.keeps_rule();
-        let trends = self.trends_ok();
-        let ratios = self.ratios_ok();
-        let tallies = tallies_ok(
-            self.reports_seen,
-            self.stale_reports,
-            self.no_echo_reports,
-            self.rtt_samples,
-            self.rtt_zero,
-            self.rtt_arith_fail,
-        );
-        clock & round_trip & trends & ratios & tallies
+        optional_clock_ok(self.prev_rr_ms)
+            & self.srtt.keeps_rule()
+            & self.trends_ok()
+            & self.ratios_ok()
+            & self.tallies_ok()
     }
 
-    // Question 1 alone, for a call with no other.
+    // In the record the counts are fields of its own: the rules list them so, and the statement of `history` reads them.
+    #[tactic(auto)]
+    pub(crate) fn tallies_ok(self) -> bool
+        ensures { result ≡ tallied self }
+    {
+        tallies_ok(Tallies {
+            reports_seen: self.reports_seen,
+            stale: self.stale_reports,
+            no_echo: self.no_echo_reports,
+            samples: self.rtt_samples,
+            zeros: self.rtt_zero,
+            failures: self.rtt_arith_fail,
+        })
+    }
+
+    // Question 1 alone, for a call with no other: ewma.rt says why each record has these lines.
     #[tactic(auto, unfolding(crate::specs::State::refusal_of, refusals::specs::Questions::first_no, refusals::specs::Questions::asked))]
-    fn refusal(self) -> u8
-        ensures { result ≡ refusal_of self }
+    fn ask(self) -> Result<(), Refusal>
+        ensures { result ≡ passed (refusal_of self) }
     {
         let mut q = Questions::all_yes();
         q.state = self.keeps_rule();
         q.first_no()
+    }
+
+    // The same of a call that moves the record.
+    #[tactic(auto, unfolding(crate::specs::State::refusal_of, refusals::specs::Questions::first_no, refusals::specs::Questions::asked))]
+    fn admit(self) -> Result<(), Refused<MmpMetrics>>
+        ensures { result ≡ admitted (refusal_of self) self }
+    {
+        let mut q = Questions::all_yes();
+        q.state = self.keeps_rule();
+        q.admit(self)
+    }
+}
+
+impl Default for MmpMetrics {
+    ghost is_default = { λ m. m ≡ fresh };
+
+    fn default() -> MmpMetrics {
+        MmpMetrics::new()
     }
 }

@@ -6,89 +6,69 @@ mod stale; // reports/stale.rt: the stale test
 mod joined; // reports/joined.rt: joined tests, for speed alone
 
 ghost use Rattle.std.specs.Prelude.{◌≡◌};
-ghost use Rattle.metrics.specs.Reports.{Room, newer_report, refused, process_refusal, process_of};
+ghost use Rattle.refusals.specs.Answers.{admitted};
+ghost use Rattle.metrics.specs.Reports.{Room, newer_state, newer_outcome, process_refusal, process_of, reported};
 
-use crate::{MmpMetrics, Outcome, ReportProcessed, RrLog};
+use crate::{MmpMetrics, Outcome};
 use figures::round_trip;
 use refusals::questions::Questions;
 use refusals::ranges::{clock_ok, counter_u64_ok};
+use refusals::refusal::Refused;
 use wire::receiver_report::ReceiverReport;
 
 impl MmpMetrics {
-    // A report that is not stale.
+    // A report that is not stale. `Room` is no invariant of a type: the record is public, and a caller may hand in one without.
     #[tactic(auto, unfolding(crate::specs::Reports::rtt_log, figures::specs::RoundTrips::round_trip, crate::specs::Reports::newer_state))]
-    fn newer_report(self, rr: ReceiverReport, our_timestamp_ms: u32, now_ms: u64) -> ReportProcessed
-        requires { Room self }
-        ensures { result ≡ newer_report self rr our_timestamp_ms now_ms }
+    fn newer_report(&mut self, rr: ReceiverReport, our_timestamp_ms: u32, now_ms: u64) -> Outcome
+        requires { Room self.old }
+        ensures answer { result ≡ newer_outcome self.old rr our_timestamp_ms now_ms }
+        ensures state { self.new ≡ newer_state self.old rr our_timestamp_ms now_ms }
     {
-        let trip = round_trip(rr, our_timestamp_ms);
-        let tripped = self.update_rtt(trip);
-        let log = self.rtt_log(trip);
-        let state = tripped.update_traffic(rr, now_ms);
         let had_srtt = self.srtt.initialized;
-        let has_srtt = state.srtt.initialized;
-        let outcome = Outcome {
-            first_srtt: !had_srtt & has_srtt,
+        let trip = round_trip(rr, our_timestamp_ms);
+        let log = self.rtt_log(trip);
+        self.update_rtt(trip);
+        self.update_traffic(rr, now_ms);
+        Outcome {
+            first_srtt: !had_srtt & self.srtt.initialized,
             log,
-        };
-        ReportProcessed {
-            refusal: 0,
-            state,
-            outcome,
         }
     }
 
-    fn refuse(self, refusal: u8) -> ReportProcessed
-        ensures { result ≡ refused refusal self }
+    // The questions of a report.
+    #[tactic(auto, unfolding(crate::specs::Reports::process_refusal, refusals::specs::Questions::first_no, refusals::specs::Questions::asked, refusals::specs::Answers::admitted))]
+    fn admit_report(self, now_ms: u64) -> Result<(), Refused<MmpMetrics>>
+        ensures { result ≡ admitted (process_refusal self now_ms) self }
     {
-        let log = RrLog::None;
-        let outcome = Outcome {
-            first_srtt: false,
-            log,
-        };
-        ReportProcessed {
-            refusal,
-            state: self,
-            outcome,
-        }
-    }
-
-    // The refusal of a report.
-    #[tactic(auto, unfolding(crate::specs::Reports::process_refusal, refusals::specs::Questions::first_no, refusals::specs::Questions::asked))]
-    fn report_refusal(self, now_ms: u64) -> u8
-        ensures { result ≡ process_refusal self now_ms }
-    {
-        if self.floats_near() {
-            if self.numbers_near(now_ms) {
-                return 0;
-            }
+        if self.floats_near() && self.numbers_near(now_ms) {
+            return Ok(());
         }
         let mut q = Questions::all_yes();
         q.state = self.keeps_rule();
         q.clocks = clock_ok(now_ms);
         q.counters = counter_u64_ok(self.reports_seen, 1);
-        q.first_no()
+        q.admit(self)
     }
 
     // Processes a report from the peer about our traffic. `our_timestamp_ms` is session-relative (for RTT), `now_ms` monotonic (for the goodput rate).
+    #[tactic(auto, unfolding(crate::specs::Reports::process_of, refusals::specs::Answers::admitted, refusals::specs::Answers::settled_with))]
     pub fn process_receiver_report(
         self,
         rr: ReceiverReport,
         our_timestamp_ms: u32,
         now_ms: u64,
-    ) -> ReportProcessed
-        ensures { result ≡ process_of self rr our_timestamp_ms now_ms }
+    ) -> Result<(MmpMetrics, Outcome), Refused<MmpMetrics>>
+        ensures { result ≡ reported (process_of self rr our_timestamp_ms now_ms) }
     {
-        let refusal = self.report_refusal(now_ms);
-        if refusal != 0 {
-            return self.refuse(refusal);
-        }
+        self.admit_report(now_ms)?;
+        let mut state = self;
         // Counted before the stale test: "a report arrived at all", not "a report was useful".
-        let mut counted = self;
-        counted.reports_seen = self.reports_seen + 1;
-        if counted.finds_stale(rr) {
-            return counted.stale_report();
-        }
-        counted.newer_report(rr, our_timestamp_ms, now_ms)
+        state.reports_seen += 1;
+        let outcome = if state.finds_stale(rr) {
+            state.stale_report()
+        } else {
+            state.newer_report(rr, our_timestamp_ms, now_ms)
+        };
+        Ok((state, outcome))
     }
 }

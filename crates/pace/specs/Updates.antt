@@ -1,15 +1,27 @@
 -- The report interval from the smoothed round trip, of a sender and of a receiver: document 01, "Reports due". Definitions only.
-use Rattle.std.specs.Prelude.{Bool, cond, ◌&&◌, [], ◌∷◌, ℕ, ◌*◌, eqb, ℤ}
+use Rattle.std.specs.Prelude.{Bool, cond, ◌&&◌, [], ◌∷◌, ℕ, ◌*◌, eqb, ℤ, Result}
 use Rattle.numbers.specs.Signs.{as_unsigned}
+use Rattle.refusals.specs.Answers.{answered}
 use Rattle.refusals.specs.Questions.{question, first_no}
 use Rattle.refusals.specs.Ranges.{clock_ok, smoothed_ok, bounds_ok}
 use Rattle.limits.specs.Limits.{max_report_interval}
 use Rattle.pace.specs.Intervals.{floor_at, update_counted, next_interval}
-use Rattle.pace.specs.declared.Paced.{Paced}
+use Rattle.refusals.specs.declared.refusal.Refusal.{Refusal}
+use Rattle.pace.specs.declared.Pace.{Pace}
 
 -- document 01, "Before any figure: the checks" of a cold-start interval: question 2 alone
 unfoldable pub cold_start_refusal : ℕ → ℕ
 cold_start_refusal ms = first_no (question 2 (clock_ok ms) ∷ [])
+
+-- a refusal's number, 0 for none, and the report interval and the count of its updates: as they were on a refusal
+pub record Paced : Type 0 where
+  pub refusal : ℕ
+  pub report_interval_ms : ℕ
+  pub srtt_sample_count : ℕ
+
+-- the same as a call's result
+unfoldable pub paced : Paced → Result Pace Refusal
+paced p = answered p.refusal (record { report_interval_ms = p.report_interval_ms; srtt_sample_count = p.srtt_sample_count })
 
 -- an update whose refusal is n: the interval of so many times SRTT between the bounds, and the updates counted with this one. Both as they were on a refusal
 unfoldable pub updated : ℕ → ℕ → ℕ → ℕ → ℤ → ℕ → ℕ → ℕ → Paced

@@ -1,9 +1,20 @@
 -- The machine code of each function on a held payload meets every contract, in the logic's own terms, that follows from its answer: `LentRead`, `MadeThenLent`, `PassedOn` and `NewThenPassedOn` of the code
 -- itself. The contract c may bind ghosts, ask for more and say assertions; what is to be shown is its `ensures` at the one answer, and for a lent reader at the one reader after it.
 use mathlib.Core.Path.{◌≡◌, sym, subst, ◌∙◌}
+use mathlib.Core.List.{[], ◌∷◌}
+use Prim.Native.Nat.{ℕ, ◌<◌, ◌^◌, ◌*◌}
 use lib.ListN.{length}
+use mir.Syntax.{w64, a_number, Args as Sizes}
+use mir.Val.{Fits}
+use native.Mathlib.Omega.{arith}
+use base.Fml.{Lft}
+use contract.BorrowLft.{◌⊑◌, ⊑_static}
+use contract.Monad.{fact, fact_i}
+use denote.Builtin.{u8}
+use prog.Memory.{size}
+use denote.Param.{number, layout, layouts, param, ArrayAt}
 use seplogic.Ra.Ura.{Ura}
-use base.Logic.{ent, emp}
+use base.Logic.{ent, emp, sep, via, id⊢}
 use types.Logic.{Logic}
 use prog.Model.{Model}
 use prog.Wired.{Wired}
@@ -25,15 +36,9 @@ use Rattle.reader.proofs.Reader.read_u32_le.Met as read_u32_le_met
 use Rattle.reader.specs.contracts.Reader.read_u64_le as read_u64_le
 use Rattle.reader.proofs.Reader.read_u64_le.Symbol as read_u64_le_code
 use Rattle.reader.proofs.Reader.read_u64_le.Met as read_u64_le_met
-use Rattle.reader.specs.contracts.Reader.read_array_2 as read_array_2
-use Rattle.reader.proofs.Reader.read_array_2.Symbol as read_array_2_code
-use Rattle.reader.proofs.Reader.read_array_2.Met as read_array_2_met
-use Rattle.reader.specs.contracts.Reader.read_array_4 as read_array_4
-use Rattle.reader.proofs.Reader.read_array_4.Symbol as read_array_4_code
-use Rattle.reader.proofs.Reader.read_array_4.Met as read_array_4_met
-use Rattle.reader.specs.contracts.Reader.read_array_8 as read_array_8
-use Rattle.reader.proofs.Reader.read_array_8.Symbol as read_array_8_code
-use Rattle.reader.proofs.Reader.read_array_8.Met as read_array_8_met
+use Rattle.reader.specs.contracts.Reader.read_array as read_array
+use Rattle.reader.proofs.Reader.read_array.Symbol as read_array_code
+use Rattle.reader.proofs.Reader.read_array.Met as read_array_met
 use Rattle.reader.specs.contracts.Reader.remaining as remaining
 use Rattle.reader.proofs.Reader.remaining.Symbol as remaining_code
 use Rattle.reader.proofs.Reader.remaining.Met as remaining_met
@@ -55,15 +60,9 @@ use Rattle.reader.proofs.reads.read_u32_le_at.Met as read_u32_le_at_met
 use Rattle.reader.specs.contracts.reads.read_u64_le_at as read_u64_le_at
 use Rattle.reader.proofs.reads.read_u64_le_at.Symbol as read_u64_le_at_code
 use Rattle.reader.proofs.reads.read_u64_le_at.Met as read_u64_le_at_met
-use Rattle.reader.specs.contracts.reads.read_array_2_at as read_array_2_at
-use Rattle.reader.proofs.reads.read_array_2_at.Symbol as read_array_2_at_code
-use Rattle.reader.proofs.reads.read_array_2_at.Met as read_array_2_at_met
-use Rattle.reader.specs.contracts.reads.read_array_4_at as read_array_4_at
-use Rattle.reader.proofs.reads.read_array_4_at.Symbol as read_array_4_at_code
-use Rattle.reader.proofs.reads.read_array_4_at.Met as read_array_4_at_met
-use Rattle.reader.specs.contracts.reads.read_array_8_at as read_array_8_at
-use Rattle.reader.proofs.reads.read_array_8_at.Symbol as read_array_8_at_code
-use Rattle.reader.proofs.reads.read_array_8_at.Met as read_array_8_at_met
+use Rattle.reader.specs.contracts.reads.read_array_at as read_array_at
+use Rattle.reader.proofs.reads.read_array_at.Symbol as read_array_at_code
+use Rattle.reader.proofs.reads.read_array_at.Met as read_array_at_met
 use Rattle.reader.specs.contracts.reads.remaining as new_remaining
 use Rattle.reader.proofs.reads.remaining.Symbol as new_remaining_code
 use Rattle.reader.proofs.reads.remaining.Met as new_remaining_met
@@ -79,9 +78,27 @@ use Rattle.reader.specs.declared.Reader.{Reader}
 use Rattle.reader.proofs.LentRead as Lent
 use Rattle.reader.proofs.PassedOn as Passed
 use Rattle.reader.proofs.MadeThenLent.{made}
-use Rattle.reader.proofs.EachRead.{of_u8, of_u16, of_u32, of_u64, of_array_2, of_array_4, of_array_8}
+use Rattle.reader.proofs.EachRead.{of_u8, of_u16, of_u32, of_u64, of_array}
 use Rattle.reader.proofs.Questions.{bytes_left, sender_report, receiver_report, from_start}
+use Rattle.reader.proofs.Beside.{beside}
 use Rattle.reader.proofs.EveryContract as every
+
+-- how many bytes a read of bytes takes, as its function is named by it
+abbrev sized : ℕ → Sizes
+sized n = layouts (a_number ∷ []) (number n, tt)
+
+-- a count below 2^63 fits a usize, and what the contract of such a read asks for is granted: its bytes have a size
+fitting : (n : ℕ) → n < 2 ^ 63 → Fits w64 n
+fitting n h = record { fits = omega arith }
+
+granted :
+    {M : Type 1} (𝓤 : Ura M) {κ : Lft} → κ ⊑ [] → (n : ℕ) → n < 2 ^ 63 →
+    ent 𝓤 (emp 𝓤) (sep 𝓤 (fact 𝓤 (κ ⊑ [])) (sep 𝓤 (fact 𝓤 (size (layout (ArrayAt u8 (param 0 (number n)))) < 2 ^ 63)) (emp 𝓤)))
+granted 𝓤 {κ} static n h =
+    via 𝓤 (fact 𝓤 (κ ⊑ [])) (fact_i 𝓤 (κ ⊑ []) (emp 𝓤) static)
+    (beside 𝓤 (fact 𝓤 (κ ⊑ [])) (sep 𝓤 (fact 𝓤 (size (layout (ArrayAt u8 (param 0 (number n)))) < 2 ^ 63)) (emp 𝓤))
+    (via 𝓤 (fact 𝓤 (size (layout (ArrayAt u8 (param 0 (number n)))) < 2 ^ 63)) (fact_i 𝓤 (size (layout (ArrayAt u8 (param 0 (number n)))) < 2 ^ 63) (emp 𝓤) (let k : n * 1 ≡ n = omega arith in omega (arith, k)))
+    (beside 𝓤 (fact 𝓤 (size (layout (ArrayAt u8 (param 0 (number n)))) < 2 ^ 63)) (emp 𝓤) (id⊢ 𝓤 (emp 𝓤)))))
 
 -- ---- a lent reader: `LentRead`
 abbrev pub read_u8_shown : {M : Type 1} (𝓤 : Ura M) → Clauses 𝓤 read_u8.ended → Type 1
@@ -144,50 +161,21 @@ read_u64_le_meets 𝓤 𝓛 𝓜 𝓡 wired c shown =
     (subst (λ x. ent 𝓤 (emp 𝓤) ((c κs a).ensures g x (at_exit read_u64_le.ended κs a (Lent.left of_u64 a.0.now, tt)))) (sym says.0) (shown κs a g)))
     (𝓡.run (𝓡.env read_u64_le_code.name)) (run_framed 𝓤 𝓛.H 𝓜 𝓡 (𝓡.env read_u64_le_code.name)) (read_u64_le_met.met 𝓤 𝓛 𝓜 𝓡 wired)
 
-abbrev pub read_array_2_shown : {M : Type 1} (𝓤 : Ura M) → Clauses 𝓤 read_array_2.ended → Type 1
-read_array_2_shown 𝓤 c =
-    (κs : Lfts 2) (a : Args read_array_2.signature κs) (g : (c κs a).ghost) →
-    ent 𝓤 (emp 𝓤) ((c κs a).ensures g (Lent.found of_array_2 a.0.now) (at_exit read_array_2.ended κs a (Lent.left of_array_2 a.0.now, tt)))
+abbrev pub read_array_shown : {M : Type 1} (𝓤 : Ura M) (n : ℕ) → Clauses 𝓤 (read_array.ended (number n)) → Type 1
+read_array_shown 𝓤 n c =
+    (κs : Lfts 3) (a : Args (read_array.signature (number n)) κs) (g : (c κs a).ghost) →
+    ent 𝓤 (emp 𝓤) ((c κs a).ensures g (Lent.found (of_array n) a.0.now) (at_exit (read_array.ended (number n)) κs a (Lent.left (of_array n) a.0.now, tt)))
 
-pub read_array_2_meets :
-    {M : Type 1} (𝓤 : Ura M) (𝓛 : Logic 𝓤) (𝓜 : Model 𝓤 𝓛.H) (𝓡 : Running 𝓤 𝓛.H 𝓜) → Wired 𝓡.env read_array_2_code.code →
-    (c : Clauses 𝓤 read_array_2.ended) → read_array_2_shown 𝓤 c → Meets 𝓛 read_array_2.signature (𝓡.run (𝓡.env read_array_2_code.name)) (closing 𝓛 read_array_2.ended c)
-read_array_2_meets 𝓤 𝓛 𝓜 𝓡 wired c shown =
-    every.meets 𝓛 read_array_2.ended (λ κs a r e. Lent.Says of_array_2 a.0.now r e.0.now) c
+pub read_array_meets :
+    {M : Type 1} (𝓤 : Ura M) (𝓛 : Logic 𝓤) (𝓜 : Model 𝓤 𝓛.H) (𝓡 : Running 𝓤 𝓛.H 𝓜) → Wired 𝓡.env read_array_code.code → (n : ℕ) → n < 2 ^ 63 →
+    (c : Clauses 𝓤 (read_array.ended (number n))) → read_array_shown 𝓤 n c → Meets 𝓛 (read_array.signature (number n)) (𝓡.run (𝓡.env (read_array_code.name (sized n)))) (closing 𝓛 (read_array.ended (number n)) c)
+read_array_meets 𝓤 𝓛 𝓜 𝓡 wired n h c shown =
+    every.meets_granted 𝓛 (read_array.ended (number n))
+    (λ κs a. (read_array.clauses (number n) 𝓛 𝓜.mem 𝓡.returns κs a).requires tt) (λ κs a. granted 𝓤 (⊑_static _) n h) (λ κs a r e. Lent.Says (of_array n) a.0.now r e.0.now) c
     (λ κs a g r ws says.
-    subst (λ (h : Reader). ent 𝓤 (emp 𝓤) ((c κs a).ensures g r (at_exit read_array_2.ended κs a (h, tt)))) (sym says.1)
-    (subst (λ x. ent 𝓤 (emp 𝓤) ((c κs a).ensures g x (at_exit read_array_2.ended κs a (Lent.left of_array_2 a.0.now, tt)))) (sym says.0) (shown κs a g)))
-    (𝓡.run (𝓡.env read_array_2_code.name)) (run_framed 𝓤 𝓛.H 𝓜 𝓡 (𝓡.env read_array_2_code.name)) (read_array_2_met.met 𝓤 𝓛 𝓜 𝓡 wired)
-
-abbrev pub read_array_4_shown : {M : Type 1} (𝓤 : Ura M) → Clauses 𝓤 read_array_4.ended → Type 1
-read_array_4_shown 𝓤 c =
-    (κs : Lfts 2) (a : Args read_array_4.signature κs) (g : (c κs a).ghost) →
-    ent 𝓤 (emp 𝓤) ((c κs a).ensures g (Lent.found of_array_4 a.0.now) (at_exit read_array_4.ended κs a (Lent.left of_array_4 a.0.now, tt)))
-
-pub read_array_4_meets :
-    {M : Type 1} (𝓤 : Ura M) (𝓛 : Logic 𝓤) (𝓜 : Model 𝓤 𝓛.H) (𝓡 : Running 𝓤 𝓛.H 𝓜) → Wired 𝓡.env read_array_4_code.code →
-    (c : Clauses 𝓤 read_array_4.ended) → read_array_4_shown 𝓤 c → Meets 𝓛 read_array_4.signature (𝓡.run (𝓡.env read_array_4_code.name)) (closing 𝓛 read_array_4.ended c)
-read_array_4_meets 𝓤 𝓛 𝓜 𝓡 wired c shown =
-    every.meets 𝓛 read_array_4.ended (λ κs a r e. Lent.Says of_array_4 a.0.now r e.0.now) c
-    (λ κs a g r ws says.
-    subst (λ (h : Reader). ent 𝓤 (emp 𝓤) ((c κs a).ensures g r (at_exit read_array_4.ended κs a (h, tt)))) (sym says.1)
-    (subst (λ x. ent 𝓤 (emp 𝓤) ((c κs a).ensures g x (at_exit read_array_4.ended κs a (Lent.left of_array_4 a.0.now, tt)))) (sym says.0) (shown κs a g)))
-    (𝓡.run (𝓡.env read_array_4_code.name)) (run_framed 𝓤 𝓛.H 𝓜 𝓡 (𝓡.env read_array_4_code.name)) (read_array_4_met.met 𝓤 𝓛 𝓜 𝓡 wired)
-
-abbrev pub read_array_8_shown : {M : Type 1} (𝓤 : Ura M) → Clauses 𝓤 read_array_8.ended → Type 1
-read_array_8_shown 𝓤 c =
-    (κs : Lfts 2) (a : Args read_array_8.signature κs) (g : (c κs a).ghost) →
-    ent 𝓤 (emp 𝓤) ((c κs a).ensures g (Lent.found of_array_8 a.0.now) (at_exit read_array_8.ended κs a (Lent.left of_array_8 a.0.now, tt)))
-
-pub read_array_8_meets :
-    {M : Type 1} (𝓤 : Ura M) (𝓛 : Logic 𝓤) (𝓜 : Model 𝓤 𝓛.H) (𝓡 : Running 𝓤 𝓛.H 𝓜) → Wired 𝓡.env read_array_8_code.code →
-    (c : Clauses 𝓤 read_array_8.ended) → read_array_8_shown 𝓤 c → Meets 𝓛 read_array_8.signature (𝓡.run (𝓡.env read_array_8_code.name)) (closing 𝓛 read_array_8.ended c)
-read_array_8_meets 𝓤 𝓛 𝓜 𝓡 wired c shown =
-    every.meets 𝓛 read_array_8.ended (λ κs a r e. Lent.Says of_array_8 a.0.now r e.0.now) c
-    (λ κs a g r ws says.
-    subst (λ (h : Reader). ent 𝓤 (emp 𝓤) ((c κs a).ensures g r (at_exit read_array_8.ended κs a (h, tt)))) (sym says.1)
-    (subst (λ x. ent 𝓤 (emp 𝓤) ((c κs a).ensures g x (at_exit read_array_8.ended κs a (Lent.left of_array_8 a.0.now, tt)))) (sym says.0) (shown κs a g)))
-    (𝓡.run (𝓡.env read_array_8_code.name)) (run_framed 𝓤 𝓛.H 𝓜 𝓡 (𝓡.env read_array_8_code.name)) (read_array_8_met.met 𝓤 𝓛 𝓜 𝓡 wired)
+    subst (λ (h : Reader). ent 𝓤 (emp 𝓤) ((c κs a).ensures g r (at_exit (read_array.ended (number n)) κs a (h, tt)))) (sym says.1)
+    (subst (λ x. ent 𝓤 (emp 𝓤) ((c κs a).ensures g x (at_exit (read_array.ended (number n)) κs a (Lent.left (of_array n) a.0.now, tt)))) (sym says.0) (shown κs a g)))
+    (𝓡.run (𝓡.env (read_array_code.name (sized n)))) (run_framed 𝓤 𝓛.H 𝓜 𝓡 (𝓡.env (read_array_code.name (sized n)))) (read_array_met.met 𝓤 𝓛 𝓜 𝓡 wired n (fitting n h))
 
 -- ---- a reader by value: `PassedOn`
 abbrev pub remaining_shown : {M : Type 1} (𝓤 : Ura M) → Clauses 𝓤 remaining.ended → Type 1
@@ -268,38 +256,17 @@ read_u64_le_at_meets 𝓤 𝓛 𝓜 𝓡 wired c shown =
     (λ κs a g r ws says. subst (λ x. ent 𝓤 (emp 𝓤) ((c κs a).ensures g x (at_exit read_u64_le_at.ended κs a (tt, (tt, tt))))) (sym says) (shown κs a g))
     (𝓡.run (𝓡.env read_u64_le_at_code.name)) (run_framed 𝓤 𝓛.H 𝓜 𝓡 (𝓡.env read_u64_le_at_code.name)) (read_u64_le_at_met.met 𝓤 𝓛 𝓜 𝓡 wired)
 
-abbrev pub read_array_2_at_shown : {M : Type 1} (𝓤 : Ura M) → Clauses 𝓤 read_array_2_at.ended → Type 1
-read_array_2_at_shown 𝓤 c = (κs : Lfts 1) (a : Args read_array_2_at.signature κs) (g : (c κs a).ghost) → ent 𝓤 (emp 𝓤) ((c κs a).ensures g (Lent.found of_array_2 (made a.0 a.1.0)) (at_exit read_array_2_at.ended κs a (tt, (tt, tt))))
+abbrev pub read_array_at_shown : {M : Type 1} (𝓤 : Ura M) (n : ℕ) → Clauses 𝓤 (read_array_at.ended (number n)) → Type 1
+read_array_at_shown 𝓤 n c = (κs : Lfts 2) (a : Args (read_array_at.signature (number n)) κs) (g : (c κs a).ghost) → ent 𝓤 (emp 𝓤) ((c κs a).ensures g (Lent.found (of_array n) (made a.0 a.1.0)) (at_exit (read_array_at.ended (number n)) κs a (tt, (tt, tt))))
 
-pub read_array_2_at_meets :
-    {M : Type 1} (𝓤 : Ura M) (𝓛 : Logic 𝓤) (𝓜 : Model 𝓤 𝓛.H) (𝓡 : Running 𝓤 𝓛.H 𝓜) → Wired 𝓡.env read_array_2_at_code.code →
-    (c : Clauses 𝓤 read_array_2_at.ended) → read_array_2_at_shown 𝓤 c → Meets 𝓛 read_array_2_at.signature (𝓡.run (𝓡.env read_array_2_at_code.name)) (closing 𝓛 read_array_2_at.ended c)
-read_array_2_at_meets 𝓤 𝓛 𝓜 𝓡 wired c shown =
-    every.meets 𝓛 read_array_2_at.ended (λ κs a r e. r ≡ Lent.found of_array_2 (made a.0 a.1.0)) c
-    (λ κs a g r ws says. subst (λ x. ent 𝓤 (emp 𝓤) ((c κs a).ensures g x (at_exit read_array_2_at.ended κs a (tt, (tt, tt))))) (sym says) (shown κs a g))
-    (𝓡.run (𝓡.env read_array_2_at_code.name)) (run_framed 𝓤 𝓛.H 𝓜 𝓡 (𝓡.env read_array_2_at_code.name)) (read_array_2_at_met.met 𝓤 𝓛 𝓜 𝓡 wired)
-
-abbrev pub read_array_4_at_shown : {M : Type 1} (𝓤 : Ura M) → Clauses 𝓤 read_array_4_at.ended → Type 1
-read_array_4_at_shown 𝓤 c = (κs : Lfts 1) (a : Args read_array_4_at.signature κs) (g : (c κs a).ghost) → ent 𝓤 (emp 𝓤) ((c κs a).ensures g (Lent.found of_array_4 (made a.0 a.1.0)) (at_exit read_array_4_at.ended κs a (tt, (tt, tt))))
-
-pub read_array_4_at_meets :
-    {M : Type 1} (𝓤 : Ura M) (𝓛 : Logic 𝓤) (𝓜 : Model 𝓤 𝓛.H) (𝓡 : Running 𝓤 𝓛.H 𝓜) → Wired 𝓡.env read_array_4_at_code.code →
-    (c : Clauses 𝓤 read_array_4_at.ended) → read_array_4_at_shown 𝓤 c → Meets 𝓛 read_array_4_at.signature (𝓡.run (𝓡.env read_array_4_at_code.name)) (closing 𝓛 read_array_4_at.ended c)
-read_array_4_at_meets 𝓤 𝓛 𝓜 𝓡 wired c shown =
-    every.meets 𝓛 read_array_4_at.ended (λ κs a r e. r ≡ Lent.found of_array_4 (made a.0 a.1.0)) c
-    (λ κs a g r ws says. subst (λ x. ent 𝓤 (emp 𝓤) ((c κs a).ensures g x (at_exit read_array_4_at.ended κs a (tt, (tt, tt))))) (sym says) (shown κs a g))
-    (𝓡.run (𝓡.env read_array_4_at_code.name)) (run_framed 𝓤 𝓛.H 𝓜 𝓡 (𝓡.env read_array_4_at_code.name)) (read_array_4_at_met.met 𝓤 𝓛 𝓜 𝓡 wired)
-
-abbrev pub read_array_8_at_shown : {M : Type 1} (𝓤 : Ura M) → Clauses 𝓤 read_array_8_at.ended → Type 1
-read_array_8_at_shown 𝓤 c = (κs : Lfts 1) (a : Args read_array_8_at.signature κs) (g : (c κs a).ghost) → ent 𝓤 (emp 𝓤) ((c κs a).ensures g (Lent.found of_array_8 (made a.0 a.1.0)) (at_exit read_array_8_at.ended κs a (tt, (tt, tt))))
-
-pub read_array_8_at_meets :
-    {M : Type 1} (𝓤 : Ura M) (𝓛 : Logic 𝓤) (𝓜 : Model 𝓤 𝓛.H) (𝓡 : Running 𝓤 𝓛.H 𝓜) → Wired 𝓡.env read_array_8_at_code.code →
-    (c : Clauses 𝓤 read_array_8_at.ended) → read_array_8_at_shown 𝓤 c → Meets 𝓛 read_array_8_at.signature (𝓡.run (𝓡.env read_array_8_at_code.name)) (closing 𝓛 read_array_8_at.ended c)
-read_array_8_at_meets 𝓤 𝓛 𝓜 𝓡 wired c shown =
-    every.meets 𝓛 read_array_8_at.ended (λ κs a r e. r ≡ Lent.found of_array_8 (made a.0 a.1.0)) c
-    (λ κs a g r ws says. subst (λ x. ent 𝓤 (emp 𝓤) ((c κs a).ensures g x (at_exit read_array_8_at.ended κs a (tt, (tt, tt))))) (sym says) (shown κs a g))
-    (𝓡.run (𝓡.env read_array_8_at_code.name)) (run_framed 𝓤 𝓛.H 𝓜 𝓡 (𝓡.env read_array_8_at_code.name)) (read_array_8_at_met.met 𝓤 𝓛 𝓜 𝓡 wired)
+pub read_array_at_meets :
+    {M : Type 1} (𝓤 : Ura M) (𝓛 : Logic 𝓤) (𝓜 : Model 𝓤 𝓛.H) (𝓡 : Running 𝓤 𝓛.H 𝓜) → Wired 𝓡.env read_array_at_code.code → (n : ℕ) → n < 2 ^ 63 →
+    (c : Clauses 𝓤 (read_array_at.ended (number n))) → read_array_at_shown 𝓤 n c → Meets 𝓛 (read_array_at.signature (number n)) (𝓡.run (𝓡.env (read_array_at_code.name (sized n)))) (closing 𝓛 (read_array_at.ended (number n)) c)
+read_array_at_meets 𝓤 𝓛 𝓜 𝓡 wired n h c shown =
+    every.meets_granted 𝓛 (read_array_at.ended (number n))
+    (λ κs a. (read_array_at.clauses (number n) 𝓛 𝓜.mem 𝓡.returns κs a).requires tt) (λ κs a. granted 𝓤 (⊑_static _) n h) (λ κs a r e. r ≡ Lent.found (of_array n) (made a.0 a.1.0)) c
+    (λ κs a g r ws says. subst (λ x. ent 𝓤 (emp 𝓤) ((c κs a).ensures g x (at_exit (read_array_at.ended (number n)) κs a (tt, (tt, tt))))) (sym says) (shown κs a g))
+    (𝓡.run (𝓡.env (read_array_at_code.name (sized n)))) (run_framed 𝓤 𝓛.H 𝓜 𝓡 (𝓡.env (read_array_at_code.name (sized n)))) (read_array_at_met.met 𝓤 𝓛 𝓜 𝓡 wired n (fitting n h))
 
 -- ---- a new reader that is asked: `NewThenPassedOn`
 abbrev pub new_remaining_shown : {M : Type 1} (𝓤 : Ura M) → Clauses 𝓤 new_remaining.ended → Type 1

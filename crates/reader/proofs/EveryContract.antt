@@ -16,9 +16,23 @@ module _ {M : Type 1} {𝓤 : Ura M} (𝓛 : Logic 𝓤) (T : Ended) where
   abbrev pub Fact : Type 1
   Fact = (κs : Lfts T.signature.lifetimes) → Args T.signature κs → Res T.signature κs → AtExit T κs → Type 0
 
-  -- the contract that asks for nothing and says the fact
+  -- what a contract asks for of the arguments
+  abbrev pub Asked : Type 2
+  Asked = (κs : Lfts T.signature.lifetimes) → Args T.signature κs → SProp 𝓤
+
+  -- what is granted whatever the arguments are
+  abbrev pub Granted : Asked → Type 1
+  Granted asks = (κs : Lfts T.signature.lifetimes) (a : Args T.signature κs) → ent 𝓤 (emp 𝓤) (asks κs a)
+
+  -- the contract that says the fact, and one that asks for something first
+  abbrev pub saying_asked : Asked → Fact → Clauses 𝓤 T
+  saying_asked asks φ κs a = record { ghost = Unit {0}; requires = λ g. asks κs a; ensures = λ g r e. fact 𝓤 (φ κs a r e) }
+
+  abbrev nothing : Asked
+  nothing κs a = emp 𝓤
+
   abbrev pub saying : Fact → Clauses 𝓤 T
-  saying φ κs a = record { ghost = Unit {0}; requires = λ g. emp 𝓤; ensures = λ g r e. fact 𝓤 (φ κs a r e) }
+  saying φ = saying_asked nothing φ
 
   -- where the fact holds, the contract's `ensures` does
   abbrev pub Shown : Fact → Clauses 𝓤 T → Type 1
@@ -26,9 +40,9 @@ module _ {M : Type 1} {𝓤 : Ura M} (𝓛 : Logic 𝓤) (T : Ended) where
       (κs : Lfts T.signature.lifetimes) (a : Args T.signature κs) (g : (c κs a).ghost) (r : Res T.signature κs) (ws : Lasts T κs a) → φ κs a r (at_exit T κs a ws) →
       ent 𝓤 (emp 𝓤) ((c κs a).ensures g r (at_exit T κs a ws))
 
-  module _ (φ : Fact) (c : Clauses 𝓤 T) (shown : Shown φ c) where
+  module _ (asks : Asked) (granted : Granted asks) (φ : Fact) (c : Clauses 𝓤 T) (shown : Shown φ c) where
     abbrev D : Contract 𝓤
-    D = triple_of 𝓛 T.signature (closing 𝓛 T (saying φ))
+    D = triple_of 𝓛 T.signature (closing 𝓛 T (saying_asked asks φ))
 
     abbrev C : Contract 𝓤
     C = triple_of 𝓛 T.signature (closing 𝓛 T c)
@@ -62,7 +76,9 @@ module _ {M : Type 1} {𝓤 : Ura M} (𝓛 : Logic 𝓤) (T : Ended) where
           (ex_i 𝓤 (λ (s : Res T.signature y.0.0). sep 𝓤 (Back 𝓛 T.signature y.0 v s) (After s)) r)))
 
       begins : ent 𝓤 (C.pre y) (D.pre x)
-      begins = mono_r 𝓤 (on_entry 𝓛 T.signature y.0.0 y.0.1 y.0.3 y.0.4) (top 𝓤 ((c y.0.0 y.0.3).requires y.1))
+      begins =
+          mono_r 𝓤 (on_entry 𝓛 T.signature y.0.0 y.0.1 y.0.3 y.0.4)
+          (via 𝓤 (emp 𝓤) (top 𝓤 ((c y.0.0 y.0.3).requires y.1)) (granted y.0.0 y.0.3))
 
       asked : ent 𝓤 (C.pre y) (ask 𝓤 D (C.args y) (C.post y))
       asked =
@@ -71,5 +87,9 @@ module _ {M : Type 1} {𝓤 : Ura M} (𝓛 : Logic 𝓤) (T : Ended) where
           (via 𝓤 (sep 𝓤 (then 𝓤 D x (C.post y)) (D.pre x)) (mono_l 𝓤 (D.pre x) (all_i 𝓤 (λ (v : Val). wand 𝓤 (D.post x v) (C.post y v)) (λ v. wand_i 𝓤 (emp 𝓤) (D.post x v) (C.post y v) (via 𝓤 (D.post x v) (snd∗ 𝓤 (emp 𝓤) (D.post x v)) (ends v)))))
           (via 𝓤 (sep 𝓤 (D.pre x) (then 𝓤 D x (C.post y))) (comm∗ 𝓤 (then 𝓤 D x (C.post y)) (D.pre x)) (ask_at 𝓤 D x (C.post y)))))
 
-    pub meets : (run : Fun 𝓤) → FmF 𝓤 run → Meets 𝓛 T.signature run (closing 𝓛 T (saying φ)) → Meets 𝓛 T.signature run (closing 𝓛 T c)
-    meets run framed met = implied 𝓤 D C asked run framed met
+    pub meets_granted : (run : Fun 𝓤) → FmF 𝓤 run → Meets 𝓛 T.signature run (closing 𝓛 T (saying_asked asks φ)) → Meets 𝓛 T.signature run (closing 𝓛 T c)
+    meets_granted run framed met = implied 𝓤 D C asked run framed met
+
+  pub meets :
+      (φ : Fact) (c : Clauses 𝓤 T) → Shown φ c → (run : Fun 𝓤) → FmF 𝓤 run → Meets 𝓛 T.signature run (closing 𝓛 T (saying φ)) → Meets 𝓛 T.signature run (closing 𝓛 T c)
+  meets φ c shown = meets_granted nothing (λ κs a. id⊢ 𝓤 (emp 𝓤)) φ c shown

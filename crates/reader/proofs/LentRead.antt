@@ -1,14 +1,14 @@
--- A read of a reader that is lent by `&mut`, for every answer and every function on a slice and a place: a method that answers what the function does and moves the reader to the answer's place
+-- A read of a reader that is lent by `&mut`, for every answer and every function on a slice and a place: a method that answers what the function does and moves the reader as it moves the place
 -- meets each contract that says no more. The contract of each method in src/lib.rt says just that of its read.
 use Rattle.std.proofs.Common.{◌≡◌, ℕ, List, sym, subst}
 use Rattle.codec.specs.declared.Place.{Place}
 use Rattle.reader.specs.Held.{place_of, moved_to}
 use Rattle.reader.specs.declared.Reader.{Reader}
 
--- a read: the type of its answer with the place that it holds, and its definition over the payload and the place
+-- a read: the type of its answer, and its definition and the place after over the payload and the place
 pub record Read : Type 1 where
   pub Answer : Type 0
-  pub after : Answer → Place
+  pub after : List ℕ → Place → Place
   pub read : List ℕ → Place → Answer
 
 module _ (X : Read) where
@@ -17,7 +17,7 @@ module _ (X : Read) where
   found h = X.read h.buf.now (place_of h)
 
   abbrev pub left : Reader → Reader
-  left h = moved_to h (X.after (found h))
+  left h = moved_to h (X.after h.buf.now (place_of h))
 
   -- what a method on a lent reader is to meet: a fact of the reader before, the answer and the reader after
   abbrev pub Contract : Type 1

@@ -9,7 +9,7 @@ use Rattle.reader.proofs.LentRead as Method
 
 -- the reader that is made
 abbrev pub made : Bor (List ℕ) → ℕ → Reader
-made s p = record { buf = s; pos = p }
+made s p = record { buf = s; at = place_at p }
 
 module _ (X : Read) where
   -- what a function on a payload and a position is to meet

@@ -11,7 +11,7 @@ pub record Question : Type 1 where
 module _ (X : Question) where
   -- the answer from where a reader stands
   abbrev pub found : Reader → X.Answer
-  found d = X.answer d.buf.now d.pos
+  found d = X.answer d.buf.now d.at.pos
 
   -- what a method on a reader is to meet
   abbrev pub Contract : Type 1

@@ -1,58 +1,50 @@
-// Each read by a reader that is made at a position of a payload, and what a new one has left.
+// Each read by a reader that is made at a position of a payload, and what a new one has left. One function of each: their names are public, and each is one call.
 ghost use Rattle.std.specs.Prelude.{◌≡◌, length};
-ghost use Rattle.codec.specs.Reading.{read_u8, read_u16, read_u32, read_u64, read_array2, read_array4, read_array8};
+ghost use Rattle.codec.specs.Reading.{read_u8, read_u16, read_u32, read_u64, read_array};
 ghost use Rattle.reader.specs.Held.{place_at};
 
 use crate::Reader;
-use codec::reader::{ReadArray2, ReadArray4, ReadArray8, ReadU8, ReadU16, ReadU32, ReadU64};
+use codec::Place;
+use codec::reader::TooShort;
 
-pub fn read_u8_at(payload: &[u8], pos: usize) -> ReadU8
+pub fn read_u8_at(payload: &[u8], pos: usize) -> Result<u8, TooShort>
     ensures { result ≡ read_u8 payload.now (place_at pos) }
 {
-    let mut reader = Reader { buf: payload, pos };
+    let at = Place { pos };
+    let mut reader = Reader { buf: payload, at };
     reader.read_u8()
 }
 
-pub fn read_u16_le_at(payload: &[u8], pos: usize) -> ReadU16
+pub fn read_u16_le_at(payload: &[u8], pos: usize) -> Result<u16, TooShort>
     ensures { result ≡ read_u16 payload.now (place_at pos) }
 {
-    let mut reader = Reader { buf: payload, pos };
+    let at = Place { pos };
+    let mut reader = Reader { buf: payload, at };
     reader.read_u16_le()
 }
 
-pub fn read_u32_le_at(payload: &[u8], pos: usize) -> ReadU32
+pub fn read_u32_le_at(payload: &[u8], pos: usize) -> Result<u32, TooShort>
     ensures { result ≡ read_u32 payload.now (place_at pos) }
 {
-    let mut reader = Reader { buf: payload, pos };
+    let at = Place { pos };
+    let mut reader = Reader { buf: payload, at };
     reader.read_u32_le()
 }
 
-pub fn read_u64_le_at(payload: &[u8], pos: usize) -> ReadU64
+pub fn read_u64_le_at(payload: &[u8], pos: usize) -> Result<u64, TooShort>
     ensures { result ≡ read_u64 payload.now (place_at pos) }
 {
-    let mut reader = Reader { buf: payload, pos };
+    let at = Place { pos };
+    let mut reader = Reader { buf: payload, at };
     reader.read_u64_le()
 }
 
-pub fn read_array_2_at(payload: &[u8], pos: usize) -> ReadArray2
-    ensures { result ≡ read_array2 payload.now (place_at pos) }
+pub fn read_array_at<const N: usize>(payload: &[u8], pos: usize) -> Result<[u8; N], TooShort>
+    ensures { result ≡ read_array payload.now (place_at pos) N }
 {
-    let mut reader = Reader { buf: payload, pos };
-    reader.read_array_2()
-}
-
-pub fn read_array_4_at(payload: &[u8], pos: usize) -> ReadArray4
-    ensures { result ≡ read_array4 payload.now (place_at pos) }
-{
-    let mut reader = Reader { buf: payload, pos };
-    reader.read_array_4()
-}
-
-pub fn read_array_8_at(payload: &[u8], pos: usize) -> ReadArray8
-    ensures { result ≡ read_array8 payload.now (place_at pos) }
-{
-    let mut reader = Reader { buf: payload, pos };
-    reader.read_array_8()
+    let at = Place { pos };
+    let mut reader = Reader { buf: payload, at };
+    reader.read_array()
 }
 
 pub fn remaining(payload: &[u8]) -> usize

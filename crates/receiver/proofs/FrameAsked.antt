@@ -1,5 +1,6 @@
 -- What a frame that nothing refuses knows of its record and its arguments, and that counting moves nothing that the windows depend on.
-use mathlib.Core.Path.{◌≡◌, refl}
+use Rattle.std.specs.Prelude.{Ok}
+use mathlib.Core.Path.{◌≡◌, refl, sym, ◌∙◌}
 use mathlib.Core.Bool.{Bool, true, not, ◌&&◌, and-eq-true_iff, or-true}
 use mathlib.Core.List.{List, [], ◌∷◌}
 use Prim.Native.Nat.{ℕ, ◌+◌, ◌^◌, ◌≤◌}
@@ -7,9 +8,11 @@ use native.Mathlib.Omega.{arith}
 use lib.IntN.{ℤ}
 use lib.ListN.{length}
 use borrow.Author.Tests.{leb-true, ltb-true}
+use Rattle.refusals.specs.Answers.{admitted}
 use Rattle.refusals.specs.Questions.{question, first_no}
 use Rattle.refusals.specs.Ranges.{max_frame, clock_ok, frame_size_ok, counter_ok, delay_ok}
 use Rattle.refusals.proofs.FirstNoFound.{each_yes, none_refuses}
+use Rattle.refusals.proofs.ResultsSayAll.{past}
 use Rattle.algorithms.specs.Owd as owds
 use Rattle.algorithms.specs.Owd.{windows_ok, push_refusal}
 use Rattle.gaps.specs.Gaps.{bursts_ok}
@@ -70,6 +73,12 @@ pub delay_question_left_out : (s : ReceiverState) (times : List ℕ) (delays : L
     ≡ frame_refusal s times delays counter timestamp bytes now sampled
 unfolding frame_refusal first_no
 delay_question_left_out s times delays counter timestamp bytes now sampled = rw (sample_in_range s timestamp now sampled)
+
+-- where the others let a frame through, nothing refuses it
+pub frame_passed : (s : ReceiverState) (times : List ℕ) (delays : List ℤ) (counter timestamp bytes now : ℕ) (sampled : Bool) (u : Unit {0})
+    → Ok u ≡ admitted (first_no (question 1 (keeps_the_rule s) ∷ question 2 (clock_ok now) ∷ question 3 (frame_size_ok bytes) ∷ question 4 (windows_ok s.owd_trend (length times) (length delays)) ∷ question 10 (counters_ok s counter bytes) ∷ [])) s
+    → frame_refusal s times delays counter timestamp bytes now sampled ≡ 0
+frame_passed s times delays counter timestamp bytes now sampled u h = sym (delay_question_left_out s times delays counter timestamp bytes now sampled) ∙ past (first_no (question 1 (keeps_the_rule s) ∷ question 2 (clock_ok now) ∷ question 3 (frame_size_ok bytes) ∷ question 4 (windows_ok s.owd_trend (length times) (length delays)) ∷ question 10 (counters_ok s counter bytes) ∷ [])) s u h
 
 -- a push by itself would be accepted too: its own questions of the window that an accepted frame pushes to are answered yes
 pub pushed_sample_accepted : (s : ReceiverState) (times : List ℕ) (delays : List ℤ) (counter timestamp bytes now : ℕ) (sampled : Bool) → frame_refusal s times delays counter timestamp bytes now sampled ≡ 0

@@ -1,4 +1,5 @@
 -- Each call ends within the rule: a new record keeps it, and so does the record after any call that is accepted.
+use Rattle.std.specs.Prelude.{Option}
 use mathlib.Core.Path.{◌≡◌, refl}
 use mathlib.Core.Bool.{Bool, true, false, cond}
 use mathlib.Core.List.{List}
@@ -8,9 +9,7 @@ use lib.Dec.{leb, ltb, eqb}
 use lib.IntN.{ℤ}
 use borrow.Author.Tests.{le-leb, eqb-true, leb-true}
 use Rattle.refusals.specs.Ranges.{max_clock, clock_ok}
-use Rattle.refusals.specs.declared.option.OptionU64.{OptionU64}
-use Rattle.pace.specs.Updates.{cold_start_refusal, updated, from_srtt, with_bounds}
-use Rattle.pace.specs.declared.Paced.{Paced}
+use Rattle.pace.specs.Updates.{Paced, cold_start_refusal, updated, from_srtt, with_bounds}
 use Rattle.pace.proofs.QuestionsAnswered.{cold_start_asked, from_srtt_asked, with_bounds_asked}
 use Rattle.pace.proofs.IntervalAtMost.{from_srtt_in_range, with_bounds_in_range}
 use Rattle.algorithms.proofs.OwdRuleKept as windows
@@ -22,14 +21,13 @@ use Rattle.algorithms.specs.OwdTrend.{trend_of}
 use Rattle.gaps.specs.Gaps.{bursts_ok}
 use Rattle.gaps.proofs.RuleKept as trackers
 use Rattle.samples.specs.Delay.{reference_ok}
-use Rattle.samples.specs.declared.delay.OwdReference.{OwdReference}
+use Rattle.samples.specs.declared.delay.OwdBase.{OwdBase}
 use Rattle.samples.proofs.SampleKeepsRule as samples
 use Rattle.receiver.specs.State.{grace, grace_ok, keeps_the_rule, started_at, with_window, fresh, new_of, rekeyed, rekey_of}
 use Rattle.receiver.specs.Frames.{reorders_after, counted, with_timing, timing_sampled, echo_if_sampled, pushes, with_sample, frame_of}
-use Rattle.receiver.specs.Reports.{some_built, none_built, built, report_refusal, built_of}
+use Rattle.receiver.specs.Reports.{ReceiverReportBuilt, some_built, none_built, built, report_refusal, built_of}
 use Rattle.receiver.specs.Pacing.{with_pace, from_srtt_of, with_bounds_of}
 use Rattle.receiver.specs.declared.ReceiverState.{ReceiverState}
-use Rattle.receiver.specs.declared.reports.ReceiverReportBuilt.{ReceiverReportBuilt}
 use Rattle.receiver.proofs.QuestionsAnswered.{kept, keeps, clock_asked, report_asked}
 use Rattle.receiver.proofs.FrameAsked.{frame_asked}
 use Rattle.receiver.proofs.BurstLengthFits.{Fits}
@@ -90,7 +88,7 @@ module _ (s : ReceiverState) (rule : keeps_the_rule s ≡ true) where
       late false h = le-leb s.cumulative_reorder_count (s.cumulative_packets_recv + 1) (omega arith)
 
   -- the figures of a sample, moved or not
-  figures_keep_rule : (j : JitterEstimator) (w : OwdTrendDetector) (ref : OwdReference) (deadline : OptionU64) (timestamp now : ℕ) → jitters.keeps_the_rule j ≡ true → owds.keeps_the_rule w ≡ true
+  figures_keep_rule : (j : JitterEstimator) (w : OwdTrendDetector) (ref : Option OwdBase) (deadline : Option ℕ) (timestamp now : ℕ) → jitters.keeps_the_rule j ≡ true → owds.keeps_the_rule w ≡ true
       → reference_ok ref ≡ true → grace_ok deadline ≡ true → clock_ok now ≡ true → keeps_the_rule (with_timing s j w ref deadline timestamp now) ≡ true
   figures_keep_rule j w ref deadline timestamp now jitter window reference deadline-ok clock =
       let k = kept s rule in

@@ -1,4 +1,5 @@
 -- What the joined tests of a frame show of each question.
+use Rattle.std.specs.Prelude.{None, Option, Some}
 use mathlib.Core.Path.{◌≡◌, refl, sym, ◌∙◌}
 use mathlib.Core.Bool.{true, false, not, ◌&&◌}
 use mathlib.Core.List.{[], ◌∷◌}
@@ -9,8 +10,6 @@ use borrow.Author.Tests.{ltb-true, leb-true, eqb-true, not-true, lt-ltb, le-leb,
 use Rattle.limits.specs.Limits.{min_owd_window_size, max_owd_window_size}
 use Rattle.refusals.specs.Questions.{question, first_no}
 use Rattle.refusals.specs.Ranges.{max_clock, max_frame, clock_ok, optional_clock_ok, frame_size_ok, counter_ok}
-use Rattle.refusals.specs.declared.option.OptionU64.{OptionU64}
-use Rattle.refusals.specs.declared.option.OptionU64.TheVariants.{None, Some}
 use Rattle.refusals.proofs.Clauses.{both, or}
 use Rattle.refusals.proofs.FirstNoFound.{none_refuses}
 use Rattle.algorithms.specs.Jitter as jitters
@@ -36,7 +35,7 @@ near : (ms : ℕ) → ltb ms near_clock ≡ true → clock_ok ms ≡ true
 near ms h = let l = ltb-true ms near_clock h in le-leb ms max_clock (omega (arith, l))
 
 -- a deadline in a clock's range
-deadline_near : (d : OptionU64) → optional_clock_ok d ≡ true → grace_ok d ≡ true
+deadline_near : (d : Option ℕ) → optional_clock_ok d ≡ true → grace_ok d ≡ true
 deadline_near None h = refl
 deadline_near (Some ms) h = let l = leb-true ms max_clock h in le-leb ms (max_clock + grace) (omega (arith, l))
 

@@ -1,9 +1,8 @@
 -- A frame is received: document 01, "Jitter, delay trend and bursts", document 02, W-203, and receiver.rs, `record_frame`. Definitions only.
-use Rattle.std.specs.Prelude.{Bool, true, cond, not, ◌&&◌, ◌||◌, List, [], ◌∷◌, ℕ, ◌+◌, ◌-◌, ◌^◌, ◌<◌, min, max, eqb, ltb, ℤ, length, set}
+use Rattle.std.specs.Prelude.{Bool, true, cond, not, ◌&&◌, ◌||◌, List, [], ◌∷◌, ℕ, ◌+◌, ◌-◌, ◌^◌, ◌<◌, min, max, eqb, ltb, ℤ, length, set, None, Option, Some}
+use Rattle.refusals.specs.Answers.{Update}
 use Rattle.refusals.specs.Questions.{question, first_no}
 use Rattle.refusals.specs.Ranges.{clock_ok, frame_size_ok, delay_ok, counter_ok}
-use Rattle.refusals.specs.declared.option.OptionU64.{OptionU64}
-use Rattle.refusals.specs.declared.option.OptionU64.TheVariants as option
 use Rattle.algorithms.specs.Owd.{windows_ok, free}
 use Rattle.algorithms.specs.declared.jitter.JitterEstimator.{JitterEstimator}
 use Rattle.algorithms.specs.declared.owd.OwdTrendDetector.{OwdTrendDetector}
@@ -12,10 +11,9 @@ use Rattle.gaps.specs.declared.Arrival.{Arrival}
 use Rattle.gaps.specs.declared.Arrival.TheVariants.{First, InSequence, Gap, Behind}
 use Rattle.samples.specs.Transit.{in_grace, jitter_after}
 use Rattle.samples.specs.Delay.{reference_after, age_of, delay_of, window_for, pushed}
-use Rattle.samples.specs.declared.delay.OwdReference.{OwdReference}
+use Rattle.samples.specs.declared.delay.OwdBase.{OwdBase}
 use Rattle.receiver.specs.State.{keeps_the_rule, updated}
 use Rattle.receiver.specs.declared.ReceiverState.{ReceiverState}
-use Rattle.receiver.specs.declared.ReceiverUpdate.{ReceiverUpdate}
 
 -- ---- counting
 -- a counter below the highest is out of order
@@ -70,7 +68,7 @@ counters_ok s counter bytes = counter_ok 64 s.cumulative_packets_recv 1 && count
 
 -- ---- sampling
 -- the figures of a sample, and what the echo reads: the timestamp and the time of the frame
-abbrev pub with_timing : ReceiverState → JitterEstimator → OwdTrendDetector → OwdReference → OptionU64 → ℕ → ℕ → ReceiverState
+abbrev pub with_timing : ReceiverState → JitterEstimator → OwdTrendDetector → Option OwdBase → Option ℕ → ℕ → ℕ → ReceiverState
 with_timing s jitter window ref deadline timestamp now =
     record {
       cumulative_packets_recv = s.cumulative_packets_recv;
@@ -85,7 +83,7 @@ with_timing s jitter window ref deadline timestamp now =
       gap_tracker = s.gap_tracker;
       ecn_ce_count = s.ecn_ce_count;
       last_sender_timestamp = timestamp;
-      last_recv_ms = option.Some now;
+      last_recv_ms = Some now;
       rekey_jitter_grace_until_ms = deadline;
       last_report_ms = s.last_report_ms;
       report_interval_ms = s.report_interval_ms;
@@ -98,7 +96,7 @@ with_timing s jitter window ref deadline timestamp now =
 unfoldable pub timing_sampled : ReceiverState → ℕ → ℕ → ReceiverState
 timing_sampled s timestamp now =
     with_timing s (jitter_after s.jitter s.last_recv_ms s.last_sender_timestamp timestamp now) (pushed s.owd_trend s.owd_ref now)
-    (reference_after s.owd_ref now timestamp) option.None timestamp now
+    (reference_after s.owd_ref now timestamp) None timestamp now
 
 -- "updates neither jitter nor trend, but does update the echo"; a frame not sampled moves nothing
 unfoldable pub echo_if_sampled : ReceiverState → ℕ → ℕ → Bool → ReceiverState
@@ -141,7 +139,7 @@ frame_refusal s times delays counter timestamp bytes now sampled =
     )
 
 -- a frame of this counter, timestamp, size and mark, at this time, sampled or not: counted, then sampled
-unfoldable pub frame_of : ReceiverState → List ℕ → List ℤ → ℕ → ℕ → ℕ → Bool → ℕ → Bool → ReceiverUpdate
+unfoldable pub frame_of : ReceiverState → List ℕ → List ℤ → ℕ → ℕ → ℕ → Bool → ℕ → Bool → Update ReceiverState
 frame_of s times delays counter timestamp bytes ce now sampled = updated (frame_refusal s times delays counter timestamp bytes now sampled) s (with_sample (counted s counter bytes ce) timestamp now sampled)
 
 -- the windows after it: as they were beside a refusal

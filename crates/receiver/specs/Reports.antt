@@ -1,8 +1,9 @@
 -- A report is built: document 01, "Jitter, delay trend and bursts", and receiver.rs, `build_report`. Definitions only.
-use Rattle.std.specs.Prelude.{true, false, cond, List, [], ◌∷◌, ℕ, ◌-◌, ◌^◌, min, eqb, ℤ, length}
+use Rattle.std.specs.Prelude.{Bool, true, false, cond, List, [], ◌∷◌, ℕ, ◌-◌, ◌^◌, min, eqb, ℤ, length, Option, None, Some, Result}
+use Rattle.refusals.specs.Answers.{settled_with}
 use Rattle.refusals.specs.Questions.{question, first_no}
 use Rattle.refusals.specs.Ranges.{clock_ok}
-use Rattle.refusals.specs.declared.option.OptionU64.TheVariants as option
+use Rattle.refusals.specs.declared.refusal.Refused.{Refused}
 use Rattle.algorithms.specs.Jitter.{jitter_us_of}
 use Rattle.algorithms.specs.Owd.{windows_ok, window, samples_ok}
 use Rattle.algorithms.specs.OwdTrend.{trend_of}
@@ -14,7 +15,6 @@ use Rattle.wire.specs.ReceiverReport.{no_report}
 use Rattle.wire.specs.declared.receiver_report.ReceiverReport.{ReceiverReport}
 use Rattle.receiver.specs.State.{keeps_the_rule}
 use Rattle.receiver.specs.declared.ReceiverState.{ReceiverState}
-use Rattle.receiver.specs.declared.reports.ReceiverReportBuilt.{ReceiverReportBuilt}
 
 -- a count, saturating at 32 bits
 abbrev pub saturated : ℕ → ℕ
@@ -58,12 +58,23 @@ reported s tracker now =
       last_sender_timestamp = s.last_sender_timestamp;
       last_recv_ms = s.last_recv_ms;
       rekey_jitter_grace_until_ms = s.rekey_jitter_grace_until_ms;
-      last_report_ms = option.Some now;
+      last_report_ms = Some now;
       report_interval_ms = s.report_interval_ms;
       interval_has_data = false;
       srtt_sample_count = s.srtt_sample_count;
       interval_max_lateness = 0;
     }
+
+-- a refusal's number, 0 for none, a report, zeros where there is none, and the record after it
+pub record ReceiverReportBuilt : Type 0 where
+  pub refusal : ℕ
+  pub some : Bool
+  pub report : ReceiverReport
+  pub state : ReceiverState
+
+-- the report, where there is one
+unfoldable pub report_built : ReceiverReportBuilt → Option ReceiverReport
+report_built r = cond r.some (Some r.report) None
 
 -- no report: a refusal, or "No report for want of data is a plain answer"
 abbrev pub none_built : ℕ → ReceiverState → ReceiverReportBuilt
@@ -92,3 +103,7 @@ report_refusal s times delays now =
 unfoldable pub built_of : ReceiverState → List ℕ → List ℤ → ℕ → ReceiverReportBuilt
 built_of s times delays now =
     cond (eqb (report_refusal s times delays now) 0) (built s (trend_of (window s.owd_trend times delays)) now) (none_built (report_refusal s times delays now) s)
+
+-- the same as the call's result
+abbrev pub built_as : ReceiverReportBuilt → Result (ReceiverState × Option ReceiverReport) (Refused ReceiverState)
+built_as b = settled_with b.refusal b.state (report_built b)

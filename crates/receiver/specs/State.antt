@@ -1,32 +1,24 @@
 -- A receiver's record, its rule and its fields: document 01, "State rule", and receiver.rs. Definitions only.
-use Rattle.std.specs.Prelude.{Bool, true, false, cond, ◌&&◌, [], ◌∷◌, ℕ, ◌+◌, eqb, leb}
+use Rattle.std.specs.Prelude.{Bool, true, false, cond, ◌&&◌, [], ◌∷◌, ℕ, ◌+◌, eqb, leb, None, Option, Some}
 use Rattle.limits.specs.Limits.{default_cold_start_interval, default_owd_window_size}
-use Rattle.refusals.specs.Answers.{answer_u32, answer_u64, answer_option_u64}
+use Rattle.refusals.specs.Answers.{Answer, Update, answer}
 use Rattle.refusals.specs.Questions.{question, first_no}
 use Rattle.refusals.specs.Ranges.{max_clock, clock_ok, optional_clock_ok}
-use Rattle.refusals.specs.declared.answer.AnswerU32.{AnswerU32}
-use Rattle.refusals.specs.declared.answer.AnswerU64.{AnswerU64}
-use Rattle.refusals.specs.declared.answer.AnswerOptionU64.{AnswerOptionU64}
-use Rattle.refusals.specs.declared.option.OptionU64.{OptionU64}
-use Rattle.refusals.specs.declared.option.OptionU64.TheVariants as option
 use Rattle.algorithms.specs.Jitter as jitters
 use Rattle.algorithms.specs.Owd as owds
 use Rattle.pace.specs.Updates.{cold_start_refusal}
 use Rattle.gaps.specs.Gaps as gaps
 use Rattle.samples.specs.Delay.{reference_ok}
-use Rattle.samples.specs.declared.delay.OwdReference.TheVariants as reference
 use Rattle.receiver.specs.declared.ReceiverState.{ReceiverState}
-use Rattle.receiver.specs.declared.ReceiverNew.{ReceiverNew}
-use Rattle.receiver.specs.declared.ReceiverUpdate.{ReceiverUpdate}
 
 -- ---- the rule: document 01, "State rule"
 -- "a grace deadline may be 15,000 ms higher"
 abbrev pub grace : ℕ
 grace = 15000
 
-abbrev pub grace_ok : OptionU64 → Bool
-grace_ok option.None = true
-grace_ok (option.Some ms) = leb ms (max_clock + grace)
+abbrev pub grace_ok : Option ℕ → Bool
+grace_ok None = true
+grace_ok (Some ms) = leb ms (max_clock + grace)
 
 -- "Reorders do not exceed lifetime packets"
 abbrev pub reorders_ok : ReceiverState → Bool
@@ -58,13 +50,13 @@ started_at window ms =
       interval_bytes_recv = 0;
       jitter = jitters.fresh;
       owd_trend = owds.new_of window;
-      owd_ref = reference.None;
+      owd_ref = None;
       gap_tracker = gaps.fresh;
       ecn_ce_count = 0;
       last_sender_timestamp = 0;
-      last_recv_ms = option.None;
-      rekey_jitter_grace_until_ms = option.None;
-      last_report_ms = option.None;
+      last_recv_ms = None;
+      rekey_jitter_grace_until_ms = None;
+      last_report_ms = None;
       report_interval_ms = ms;
       interval_has_data = false;
       srtt_sample_count = 0;
@@ -80,7 +72,7 @@ abbrev pub fresh : ReceiverState
 fresh = with_window default_owd_window_size
 
 -- a cold-start interval of the caller's; "A refused constructor, given no state, returns the default one"
-unfoldable pub new_of : ℕ → ℕ → ReceiverNew
+unfoldable pub new_of : ℕ → ℕ → Update ReceiverState
 new_of window ms = record { refusal = cold_start_refusal ms; state = cond (eqb (cold_start_refusal ms) 0) (started_at window ms) fresh }
 
 -- ---- calls
@@ -93,7 +85,7 @@ unfoldable pub clock_refusal : ReceiverState → ℕ → ℕ
 clock_refusal s now = first_no (question 1 (keeps_the_rule s) ∷ question 2 (clock_ok now) ∷ [])
 
 -- a call on s whose refusal is n and that moves the state to t: the state as given on a refusal
-abbrev pub updated : ℕ → ReceiverState → ReceiverState → ReceiverUpdate
+abbrev pub updated : ℕ → ReceiverState → ReceiverState → Update ReceiverState
 updated n s t = record { refusal = n; state = cond (eqb n 0) t s }
 
 -- a rekey with a grace until the deadline: lifetime counts and report timing stay, all else begins again
@@ -108,12 +100,12 @@ rekeyed s deadline =
       interval_bytes_recv = 0;
       jitter = jitters.fresh;
       owd_trend = owds.empty s.owd_trend.capacity;
-      owd_ref = reference.None;
+      owd_ref = None;
       gap_tracker = gaps.fresh;
       ecn_ce_count = 0;
       last_sender_timestamp = 0;
-      last_recv_ms = option.None;
-      rekey_jitter_grace_until_ms = option.Some deadline;
+      last_recv_ms = None;
+      rekey_jitter_grace_until_ms = Some deadline;
       last_report_ms = s.last_report_ms;
       report_interval_ms = s.report_interval_ms;
       interval_has_data = false;
@@ -122,31 +114,31 @@ rekeyed s deadline =
     }
 
 -- "the rekey deadline (rekey time + 15,000)"
-unfoldable pub rekey_of : ReceiverState → ℕ → ReceiverUpdate
+unfoldable pub rekey_of : ReceiverState → ℕ → Update ReceiverState
 rekey_of s now = updated (clock_refusal s now) s (rekeyed s (now + grace))
 
 -- ---- the fields, and 0 or none on a refusal
-abbrev pub packets_of : ReceiverState → AnswerU64
-packets_of s = answer_u64 (refusal_of s) s.cumulative_packets_recv
+abbrev pub packets_of : ReceiverState → Answer ℕ
+packets_of s = answer 0 (refusal_of s) s.cumulative_packets_recv
 
-abbrev pub bytes_of : ReceiverState → AnswerU64
-bytes_of s = answer_u64 (refusal_of s) s.cumulative_bytes_recv
+abbrev pub bytes_of : ReceiverState → Answer ℕ
+bytes_of s = answer 0 (refusal_of s) s.cumulative_bytes_recv
 
-abbrev pub highest_of : ReceiverState → AnswerU64
-highest_of s = answer_u64 (refusal_of s) s.highest_counter
+abbrev pub highest_of : ReceiverState → Answer ℕ
+highest_of s = answer 0 (refusal_of s) s.highest_counter
 
-abbrev pub jitter_of : ReceiverState → AnswerU32
-jitter_of s = answer_u32 (refusal_of s) (jitters.jitter_us_of s.jitter).value
+abbrev pub jitter_of : ReceiverState → Answer ℕ
+jitter_of s = answer 0 (refusal_of s) (jitters.jitter_us_of s.jitter).value
 
-abbrev pub interval_of : ReceiverState → AnswerU64
-interval_of s = answer_u64 (refusal_of s) s.report_interval_ms
+abbrev pub interval_of : ReceiverState → Answer ℕ
+interval_of s = answer 0 (refusal_of s) s.report_interval_ms
 
-abbrev pub last_recv_of : ReceiverState → AnswerOptionU64
-last_recv_of s = answer_option_u64 (refusal_of s) s.last_recv_ms
+abbrev pub last_recv_of : ReceiverState → Answer (Option ℕ)
+last_recv_of s = answer None (refusal_of s) s.last_recv_ms
 
-abbrev pub ecn_of : ReceiverState → AnswerU32
-ecn_of s = answer_u32 (refusal_of s) s.ecn_ce_count
+abbrev pub ecn_of : ReceiverState → Answer ℕ
+ecn_of s = answer 0 (refusal_of s) s.ecn_ce_count
 
 -- document 02, W-203: "The receiver keeps the greatest lateness of the interval .. and offers it through an accessor"
-abbrev pub lateness_of : ReceiverState → AnswerU64
-lateness_of s = answer_u64 (refusal_of s) s.interval_max_lateness
+abbrev pub lateness_of : ReceiverState → Answer ℕ
+lateness_of s = answer 0 (refusal_of s) s.interval_max_lateness

@@ -5,38 +5,40 @@ mod sampling; // frames/sampling.rt: jitter, the one-way delay trend and the tim
 mod joined; // frames/joined.rt: the questions of an ordinary frame in one test
 
 ghost use Rattle.std.specs.Prelude.{◌≡◌, true, [], ◌∷◌};
+ghost use Rattle.refusals.specs.Answers.{admitted, settled};
 ghost use Rattle.refusals.specs.Questions.{question, first_no};
 ghost use Rattle.refusals.specs.Ranges.{clock_ok, frame_size_ok};
 ghost use Rattle.algorithms.specs.Owd as owds;
 ghost use Rattle.receiver.specs.State.{keeps_the_rule};
 ghost use Rattle.receiver.specs.Frames.{counters_ok, frame_of, frame_times, frame_delays};
 
-use crate::{ReceiverState, ReceiverUpdate};
+use crate::ReceiverState;
 use refusals::questions::Questions;
 use refusals::ranges::{clock_ok, frame_size_ok};
+use refusals::refusal::Refused;
 
 impl ReceiverState {
-    // The refusal of a frame. Question 5 is left out: every sample is in range.
-    #[tactic(auto, unfolding(refusals::specs::Questions::first_no, refusals::specs::Questions::asked))]
-    fn frame_refusal(
+    // The questions of a frame. Question 5 is left out: every sample is in range.
+    #[tactic(auto, unfolding(refusals::specs::Questions::first_no, refusals::specs::Questions::asked, refusals::specs::Answers::admitted))]
+    fn admit_frame(
         self,
         times: usize,
         delays: usize,
         counter: u64,
         bytes: usize,
         now_ms: u64,
-    ) -> u8
-        ensures { result ≡ first_no (
+    ) -> Result<(), Refused<ReceiverState>>
+        ensures { result ≡ admitted (first_no (
             question 1 (keeps_the_rule self)
             ∷ question 2 (clock_ok now_ms)
             ∷ question 3 (frame_size_ok bytes)
             ∷ question 4 (owds.windows_ok self.owd_trend times delays)
             ∷ question 10 (counters_ok self counter bytes)
             ∷ []
-            ) }
+            )) self }
     {
         if self.well_within(times, delays, bytes, now_ms) {
-            return 0;
+            return Ok(());
         }
         let mut q = Questions::all_yes();
         q.state = self.keeps_rule();
@@ -44,10 +46,12 @@ impl ReceiverState {
         q.frame_size = frame_size_ok(bytes);
         q.windows = self.owd_trend.windows_ok(times, delays);
         q.counters = self.counters_ok(counter, bytes as u64);
-        q.first_no()
+        q.admit(self)
     }
 
-    // Record a received frame from this peer, and sample its timing only when `sampled`: on a link of several paths, on the active one.
+    // Record a received frame from this peer, and sample its timing only when `sampled`: on a link of several paths, on the active one. A frame's five numbers are
+    // parameters and no struct: each half of the call takes other ones.
+    #[tactic(auto, unfolding(crate::specs::Frames::frame_of, crate::specs::Frames::frame_times, crate::specs::Frames::frame_delays, crate::specs::Frames::frame_refusal, refusals::specs::Questions::first_no, refusals::specs::Answers::admitted, refusals::specs::Answers::settled), using(crate::proofs::FrameAsked::sample_in_range))]
     pub fn record_frame(
         self,
         times: &mut [u32],
@@ -58,22 +62,14 @@ impl ReceiverState {
         ce_flag: bool,
         now_ms: u64,
         sampled: bool,
-    ) -> ReceiverUpdate
-        ensures answer { result ≡ frame_of self times.old delays.old counter sender_timestamp_ms bytes ce_flag now_ms sampled }
+    ) -> Result<ReceiverState, Refused<ReceiverState>>
+        ensures answer { result ≡ settled (frame_of self times.old delays.old counter sender_timestamp_ms bytes ce_flag now_ms sampled) }
         ensures times { times.new ≡ frame_times self times.old delays.old counter sender_timestamp_ms bytes now_ms sampled }
         ensures delays { delays.new ≡ frame_delays self times.old delays.old counter sender_timestamp_ms bytes now_ms sampled }
     {
-        let refusal = self.frame_refusal(times.len(), delays.len(), counter, bytes, now_ms);
-        if refusal == 0 {
-            let counted = self.count(counter, bytes as u32, ce_flag);
-            let state = counted.sample(times, delays, sender_timestamp_ms, now_ms, sampled);
-            ReceiverUpdate { refusal, state }
-        } else {
-            ReceiverUpdate {
-                refusal,
-                state: self,
-            }
-        }
+        self.admit_frame(times.len(), delays.len(), counter, bytes, now_ms)?;
+        let counted = self.count(counter, bytes as u32, ce_flag);
+        Ok(counted.sample(times, delays, sender_timestamp_ms, now_ms, sampled))
     }
 
     // Record a received frame from this peer, sampling its timing.
@@ -86,8 +82,8 @@ impl ReceiverState {
         bytes: usize,
         ce_flag: bool,
         now_ms: u64,
-    ) -> ReceiverUpdate
-        ensures answer { result ≡ frame_of self times.old delays.old counter sender_timestamp_ms bytes ce_flag now_ms true }
+    ) -> Result<ReceiverState, Refused<ReceiverState>>
+        ensures answer { result ≡ settled (frame_of self times.old delays.old counter sender_timestamp_ms bytes ce_flag now_ms true) }
         ensures times { times.new ≡ frame_times self times.old delays.old counter sender_timestamp_ms bytes now_ms true }
         ensures delays { delays.new ≡ frame_delays self times.old delays.old counter sender_timestamp_ms bytes now_ms true }
     {

@@ -7,18 +7,17 @@ pub mod reports; // reports.rt: a report is built
 pub mod pacing; // pacing.rt: the report interval, and when a report is due
 
 ghost use Rattle.std.specs.Prelude.{◌≡◌};
-ghost use Rattle.refusals.specs.Answers.{answer_u64};
+ghost use Rattle.refusals.specs.Answers.{settled, passed, told};
 ghost use Rattle.receiver.specs.State.{grace_ok, keeps_the_rule, refusal_of, started_at, with_window, fresh, new_of, rekeyed, rekey_of, packets_of, bytes_of, highest_of, jitter_of, interval_of, last_recv_of, ecn_of, lateness_of};
 
 use algorithms::jitter::JitterEstimator;
 use algorithms::owd::OwdTrendDetector;
 use gaps::GapTracker;
 use pace::cold_start_refusal;
-use refusals::answer::{AnswerOptionU64, AnswerU32, AnswerU64};
-use refusals::option::OptionU64;
 use refusals::questions::Questions;
 use refusals::ranges::{MAX_CLOCK_MS, clock_ok, optional_clock_ok};
-use samples::delay::{OwdReference, reference_ok};
+use refusals::refusal::{Refusal, Refused};
+use samples::delay::{OwdBase, reference_ok};
 
 // Grace after a rekey before jitter and delay are sampled again: frames of the old session may still come for 10 s, and 5 s margin.
 pub const REKEY_JITTER_GRACE_MS: u64 = 15_000;
@@ -43,7 +42,7 @@ pub struct ReceiverState {
     // --- OWD trend ---
     pub owd_trend: OwdTrendDetector,
     // The frame that every OWD sample is measured from.
-    pub owd_ref: OwdReference,
+    pub owd_ref: Option<OwdBase>,
     // --- Loss tracking ---
     pub gap_tracker: GapTracker,
     // --- ECN ---
@@ -51,14 +50,14 @@ pub struct ReceiverState {
     // --- Timestamp echo ---
     // Sender timestamp of the most recent sampled frame, and when it came.
     pub last_sender_timestamp: u32,
-    pub last_recv_ms: OptionU64,
+    pub last_recv_ms: Option<u64>,
     // --- Rekey grace ---
     // Until then jitter and OWD are not sampled.
-    pub rekey_jitter_grace_until_ms: OptionU64,
+    pub rekey_jitter_grace_until_ms: Option<u64>,
     // --- Report timing ---
-    pub last_report_ms: OptionU64,
+    pub last_report_ms: Option<u64>,
     pub report_interval_ms: u64,
-    // Whether any frames have been received since the last report.
+    // Whether any frames have been received since the last report. A flag and no Option: the interval's numbers are handed back where it is off too.
     pub interval_has_data: bool,
     // --- Cold-start tracking ---
     // Number of SRTT-based interval updates received.
@@ -68,28 +67,11 @@ pub struct ReceiverState {
     pub interval_max_lateness: u64,
 }
 
-// A new state, the default one on a refusal.
-#[derive(Clone, Copy)]
-pub struct ReceiverNew {
-    pub refusal: u8,
-    pub state: ReceiverState,
-}
-
-// A state after a call that may refuse.
-#[derive(Clone, Copy)]
-pub struct ReceiverUpdate {
-    pub refusal: u8,
-    pub state: ReceiverState,
-}
-
 // The rule of a grace deadline.
-fn grace_ok(deadline_ms: OptionU64) -> bool
+fn grace_ok(deadline_ms: Option<u64>) -> bool
     ensures { result ≡ grace_ok deadline_ms }
 {
-    match deadline_ms {
-        OptionU64::None => true,
-        OptionU64::Some(ms) => ms <= MAX_GRACE_MS,
-    }
+    deadline_ms.is_none_or(|ms| ms <= MAX_GRACE_MS)
 }
 
 impl ReceiverState {
@@ -97,13 +79,6 @@ impl ReceiverState {
     fn started(owd_window_size: usize, report_interval_ms: u64) -> ReceiverState
         ensures { result ≡ started_at owd_window_size report_interval_ms }
     {
-        let jitter = JitterEstimator::new();
-        let owd_trend = OwdTrendDetector::new(owd_window_size);
-        let owd_ref = OwdReference::None;
-        let gap_tracker = GapTracker::new();
-        let last_recv_ms = OptionU64::None;
-        let rekey_jitter_grace_until_ms = OptionU64::None;
-        let last_report_ms = OptionU64::None;
         ReceiverState {
             cumulative_packets_recv: 0,
             cumulative_bytes_recv: 0,
@@ -111,15 +86,15 @@ impl ReceiverState {
             highest_counter: 0,
             interval_packets_recv: 0,
             interval_bytes_recv: 0,
-            jitter,
-            owd_trend,
-            owd_ref,
-            gap_tracker,
+            jitter: JitterEstimator::new(),
+            owd_trend: OwdTrendDetector::new(owd_window_size),
+            owd_ref: None,
+            gap_tracker: GapTracker::new(),
             ecn_ce_count: 0,
             last_sender_timestamp: 0,
-            last_recv_ms,
-            rekey_jitter_grace_until_ms,
-            last_report_ms,
+            last_recv_ms: None,
+            rekey_jitter_grace_until_ms: None,
+            last_report_ms: None,
             report_interval_ms,
             interval_has_data: false,
             srtt_sample_count: 0,
@@ -133,50 +108,40 @@ impl ReceiverState {
         ReceiverState::started(owd_window_size, limits::DEFAULT_COLD_START_INTERVAL_MS)
     }
 
-    pub fn default() -> ReceiverState
-        ensures { result ≡ fresh }
-    {
-        ReceiverState::new(limits::DEFAULT_OWD_WINDOW_SIZE)
-    }
-
     // With a cold-start interval of the caller's.
-    #[tactic(auto, unfolding(crate::specs::State::new_of))]
-    pub fn new_with_cold_start(owd_window_size: usize, cold_start_ms: u64) -> ReceiverNew
-        ensures { result ≡ new_of owd_window_size cold_start_ms }
+    #[tactic(auto, unfolding(crate::specs::State::new_of, refusals::specs::Answers::settled, refusals::specs::Answers::answered))]
+    pub fn new_with_cold_start(
+        owd_window_size: usize,
+        cold_start_ms: u64,
+    ) -> Result<ReceiverState, Refused<ReceiverState>>
+        ensures { result ≡ settled (new_of owd_window_size cold_start_ms) }
     {
-        let refusal = cold_start_refusal(cold_start_ms);
-        if refusal == 0 {
-            let state = ReceiverState::started(owd_window_size, cold_start_ms);
-            ReceiverNew { refusal, state }
-        } else {
-            let state = ReceiverState::default();
-            ReceiverNew { refusal, state }
-        }
+        cold_start_refusal(cold_start_ms).map_err(|refusal| Refused {
+            refusal,
+            state: ReceiverState::default(),
+        })?;
+        Ok(ReceiverState::started(owd_window_size, cold_start_ms))
     }
 
     #[tactic(auto, unfolding(crate::specs::State::keeps_the_rule))]
     pub fn keeps_rule(self) -> bool
         ensures { result ≡ keeps_the_rule self }
     {
-        let last_recv_ms = self.last_recv_ms;
-        let recv = optional_clock_ok(last_recv_ms);
-        let last_report_ms = self.last_report_ms;
-        let report = optional_clock_ok(last_report_ms);
-        let interval = clock_ok(self.report_interval_ms);
-        let deadline_ms = self.rekey_jitter_grace_until_ms;
-        let grace = grace_ok(deadline_ms);
-        let jitter = self.jitter.keeps_rule();
-        let owd_trend = self.owd_trend.keeps_rule();
-        let owd_ref = self.owd_ref;
-        let reference = reference_ok(owd_ref);
-        let gaps = self.gap_tracker.keeps_rule();
-        let reorders = self.cumulative_reorder_count <= self.cumulative_packets_recv;
-        recv & report & interval & grace & jitter & owd_trend & reference & gaps & reorders
+        optional_clock_ok(self.last_recv_ms)
+            & optional_clock_ok(self.last_report_ms)
+            & clock_ok(self.report_interval_ms)
+            & grace_ok(self.rekey_jitter_grace_until_ms)
+            & self.jitter.keeps_rule()
+            & self.owd_trend.keeps_rule()
+            & reference_ok(self.owd_ref)
+            & self.gap_tracker.keeps_rule()
+            & (self.cumulative_reorder_count <= self.cumulative_packets_recv)
     }
 
+    // Question 1 alone: ewma.rt says why each record has these lines.
     #[tactic(auto, unfolding(crate::specs::State::refusal_of, refusals::specs::Questions::first_no, refusals::specs::Questions::asked))]
-    fn refusal(self) -> u8
-        ensures { result ≡ refusal_of self }
+    fn ask(self) -> Result<(), Refusal>
+        ensures { result ≡ passed (refusal_of self) }
     {
         let mut q = Questions::all_yes();
         q.state = self.keeps_rule();
@@ -188,113 +153,110 @@ impl ReceiverState {
     fn rekeyed(self, deadline_ms: u64) -> ReceiverState
         ensures { result ≡ rekeyed self deadline_ms }
     {
-        let jitter = JitterEstimator::new();
-        let owd_trend = self.owd_trend.clear_unchecked();
-        let owd_ref = OwdReference::None;
-        let gap_tracker = GapTracker::new();
-        let last_recv_ms = OptionU64::None;
-        let rekey_jitter_grace_until_ms = OptionU64::Some(deadline_ms);
-        let last_report_ms = self.last_report_ms;
         ReceiverState {
-            cumulative_packets_recv: self.cumulative_packets_recv,
-            cumulative_bytes_recv: self.cumulative_bytes_recv,
             cumulative_reorder_count: 0,
             highest_counter: 0,
             interval_packets_recv: 0,
             interval_bytes_recv: 0,
-            jitter,
-            owd_trend,
-            owd_ref,
-            gap_tracker,
+            jitter: JitterEstimator::new(),
+            owd_trend: self.owd_trend.clear_unchecked(),
+            owd_ref: None,
+            gap_tracker: GapTracker::new(),
             ecn_ce_count: 0,
             last_sender_timestamp: 0,
-            last_recv_ms,
-            rekey_jitter_grace_until_ms,
-            last_report_ms,
-            report_interval_ms: self.report_interval_ms,
+            last_recv_ms: None,
+            rekey_jitter_grace_until_ms: Some(deadline_ms),
             interval_has_data: false,
-            srtt_sample_count: self.srtt_sample_count,
             interval_max_lateness: 0,
+            ..self
         }
     }
 
     // Reset counter-dependent state for a rekey: the new session starts with counter 0 and reset timestamps.
-    #[tactic(auto, unfolding(crate::specs::State::rekey_of, crate::specs::State::clock_refusal, refusals::specs::Questions::first_no, refusals::specs::Questions::asked))]
-    pub fn reset_for_rekey(self, now_ms: u64) -> ReceiverUpdate
-        ensures { result ≡ rekey_of self now_ms }
+    #[tactic(auto, unfolding(crate::specs::State::rekey_of, crate::specs::State::clock_refusal, refusals::specs::Questions::first_no, refusals::specs::Questions::asked, refusals::specs::Answers::admitted, refusals::specs::Answers::settled))]
+    pub fn reset_for_rekey(self, now_ms: u64) -> Result<ReceiverState, Refused<ReceiverState>>
+        ensures { result ≡ settled (rekey_of self now_ms) }
     {
         let mut q = Questions::all_yes();
         q.state = self.keeps_rule();
         q.clocks = clock_ok(now_ms);
-        let refusal = q.first_no();
-        if refusal == 0 {
-            let state = self.rekeyed(now_ms + REKEY_JITTER_GRACE_MS);
-            ReceiverUpdate { refusal, state }
-        } else {
-            ReceiverUpdate {
-                refusal,
-                state: self,
-            }
-        }
+        q.admit(self)?;
+        Ok(self.rekeyed(now_ms + REKEY_JITTER_GRACE_MS))
     }
 
     // --- Accessors ---
 
-    fn answer_u64(self, value: u64) -> AnswerU64
-        ensures { result ≡ answer_u64 (refusal_of self) value }
+    #[tactic(auto, unfolding(refusals::specs::Answers::answered, refusals::specs::Answers::answer))]
+    pub fn cumulative_packets_recv(self) -> Result<u64, Refusal>
+        ensures { result ≡ told (packets_of self) }
     {
-        AnswerU64::of(self.refusal(), value)
+        self.ask()?;
+        Ok(self.cumulative_packets_recv)
     }
 
-    pub fn cumulative_packets_recv(self) -> AnswerU64
-        ensures { result ≡ packets_of self }
+    #[tactic(auto, unfolding(refusals::specs::Answers::answered, refusals::specs::Answers::answer))]
+    pub fn cumulative_bytes_recv(self) -> Result<u64, Refusal>
+        ensures { result ≡ told (bytes_of self) }
     {
-        self.answer_u64(self.cumulative_packets_recv)
+        self.ask()?;
+        Ok(self.cumulative_bytes_recv)
     }
 
-    pub fn cumulative_bytes_recv(self) -> AnswerU64
-        ensures { result ≡ bytes_of self }
+    #[tactic(auto, unfolding(refusals::specs::Answers::answered, refusals::specs::Answers::answer))]
+    pub fn highest_counter(self) -> Result<u64, Refusal>
+        ensures { result ≡ told (highest_of self) }
     {
-        self.answer_u64(self.cumulative_bytes_recv)
+        self.ask()?;
+        Ok(self.highest_counter)
     }
 
-    pub fn highest_counter(self) -> AnswerU64
-        ensures { result ≡ highest_of self }
+    #[tactic(auto, unfolding(refusals::specs::Answers::answered, refusals::specs::Answers::answer, algorithms::specs::Jitter::jitter_us_of, algorithms::specs::Jitter::refusal_of, crate::specs::State::refusal_of, crate::specs::State::keeps_the_rule, refusals::specs::Questions::first_no))]
+    pub fn jitter_us(self) -> Result<u32, Refusal>
+        ensures { result ≡ told (jitter_of self) }
     {
-        self.answer_u64(self.highest_counter)
+        self.ask()?;
+        self.jitter.jitter_us()
     }
 
-    pub fn jitter_us(self) -> AnswerU32
-        ensures { result ≡ jitter_of self }
+    #[tactic(auto, unfolding(refusals::specs::Answers::answered, refusals::specs::Answers::answer))]
+    pub fn report_interval_ms(self) -> Result<u64, Refusal>
+        ensures { result ≡ told (interval_of self) }
     {
-        let jitter = self.jitter.jitter_us();
-        AnswerU32::of(self.refusal(), jitter.value)
-    }
-
-    pub fn report_interval_ms(self) -> AnswerU64
-        ensures { result ≡ interval_of self }
-    {
-        self.answer_u64(self.report_interval_ms)
+        self.ask()?;
+        Ok(self.report_interval_ms)
     }
 
     // When the most recent sampled frame came, if one did.
-    pub fn last_recv_ms(self) -> AnswerOptionU64
-        ensures { result ≡ last_recv_of self }
+    #[tactic(auto, unfolding(refusals::specs::Answers::answered, refusals::specs::Answers::answer))]
+    pub fn last_recv_ms(self) -> Result<Option<u64>, Refusal>
+        ensures { result ≡ told (last_recv_of self) }
     {
-        let last_recv_ms = self.last_recv_ms;
-        AnswerOptionU64::of(self.refusal(), last_recv_ms)
+        self.ask()?;
+        Ok(self.last_recv_ms)
     }
 
-    pub fn ecn_ce_count(self) -> AnswerU32
-        ensures { result ≡ ecn_of self }
+    #[tactic(auto, unfolding(refusals::specs::Answers::answered, refusals::specs::Answers::answer))]
+    pub fn ecn_ce_count(self) -> Result<u32, Refusal>
+        ensures { result ≡ told (ecn_of self) }
     {
-        AnswerU32::of(self.refusal(), self.ecn_ce_count)
+        self.ask()?;
+        Ok(self.ecn_ce_count)
     }
 
     // How far behind, at most, a frame of this interval has come.
-    pub fn interval_max_lateness(self) -> AnswerU64
-        ensures { result ≡ lateness_of self }
+    #[tactic(auto, unfolding(refusals::specs::Answers::answered, refusals::specs::Answers::answer))]
+    pub fn interval_max_lateness(self) -> Result<u64, Refusal>
+        ensures { result ≡ told (lateness_of self) }
     {
-        self.answer_u64(self.interval_max_lateness)
+        self.ask()?;
+        Ok(self.interval_max_lateness)
+    }
+}
+
+impl Default for ReceiverState {
+    ghost is_default = { λ x. x ≡ fresh };
+
+    fn default() -> ReceiverState {
+        ReceiverState::new(limits::DEFAULT_OWD_WINDOW_SIZE)
     }
 }

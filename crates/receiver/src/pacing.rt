@@ -1,77 +1,80 @@
-// The report interval from the smoothed round trip, and when a report is due.
+// The report interval from the smoothed round trip, and when a report is due. The twin of a sender's pacing: sender's pacing.rt says why no trait joins them.
 
 ghost use Rattle.std.specs.Prelude.{◌≡◌};
-ghost use Rattle.receiver.specs.Pacing.{with_pace, from_srtt_of, with_bounds_of, passed, is_due, should_send_of};
+ghost use Rattle.refusals.specs.Answers as answers;
+ghost use Rattle.receiver.specs.Pacing.{paced_at, from_srtt_of, with_bounds_of, passed, is_due, should_send_of};
 
-use crate::{ReceiverState, ReceiverUpdate};
-use numbers::methods::saturating_sub_u64;
-use pace::{Paced, from_srtt, with_bounds};
-use refusals::answer::AnswerBool;
-use refusals::option::OptionU64;
+use crate::ReceiverState;
+use pace::Pace;
 use refusals::questions::Questions;
 use refusals::ranges::clock_ok;
+use refusals::refusal::{Refusal, Refused};
 
 // The interval in round trips.
 const SRTT_MULTIPLE: u8 = 1;
 
 // Whether the interval has passed since the last report, if there was one.
-fn passed(last_report_ms: OptionU64, report_interval_ms: u64, now_ms: u64) -> bool
+fn passed(last_report_ms: Option<u64>, report_interval_ms: u64, now_ms: u64) -> bool
     ensures { result ≡ passed last_report_ms report_interval_ms now_ms }
 {
-    match last_report_ms {
-        OptionU64::None => true,
-        OptionU64::Some(last) => report_interval_ms <= saturating_sub_u64(now_ms, last),
-    }
+    last_report_ms.is_none_or(|last| report_interval_ms <= now_ms.saturating_sub(last))
 }
 
 impl ReceiverState {
-    fn with_pace(self, pace: Paced) -> ReceiverUpdate
-        ensures { result ≡ with_pace self pace }
+    // In the record the two are fields of its own: the rules list them so, and laws of `history` name them.
+    fn pace(self) -> Pace
+        ensures { result ≡ record { report_interval_ms = self.report_interval_ms; srtt_sample_count = self.srtt_sample_count } }
     {
-        let mut state = self;
-        state.report_interval_ms = pace.report_interval_ms;
-        state.srtt_sample_count = pace.srtt_sample_count;
-        ReceiverUpdate {
-            refusal: pace.refusal,
-            state,
+        Pace {
+            report_interval_ms: self.report_interval_ms,
+            srtt_sample_count: self.srtt_sample_count,
+        }
+    }
+
+    fn paced_at(self, pace: Pace) -> ReceiverState
+        ensures { result ≡ paced_at self pace.report_interval_ms pace.srtt_sample_count }
+    {
+        ReceiverState {
+            report_interval_ms: pace.report_interval_ms,
+            srtt_sample_count: pace.srtt_sample_count,
+            ..self
         }
     }
 
     // The interval from SRTT, between the link layer's bounds. The update is counted, and the first few have a lower floor.
-    #[tactic(auto, unfolding(crate::specs::Pacing::from_srtt_of))]
-    pub fn update_report_interval_from_srtt(self, srtt_us: i64) -> ReceiverUpdate
-        ensures { result ≡ from_srtt_of self srtt_us }
+    #[tactic(auto, unfolding(crate::specs::Pacing::from_srtt_of, pace::specs::Updates::paced, pace::specs::Updates::from_srtt, pace::specs::Updates::updated, refusals::specs::Answers::answered, refusals::specs::Answers::settled))]
+    pub fn update_report_interval_from_srtt(
+        self,
+        srtt_us: i64,
+    ) -> Result<ReceiverState, Refused<ReceiverState>>
+        ensures { result ≡ answers.settled (from_srtt_of self srtt_us) }
     {
-        let pace = from_srtt(
-            self.keeps_rule(),
-            SRTT_MULTIPLE,
-            self.report_interval_ms,
-            self.srtt_sample_count,
-            srtt_us,
-        );
-        self.with_pace(pace)
+        self.pace()
+            .from_srtt(self.keeps_rule(), SRTT_MULTIPLE, srtt_us)
+            .map(|pace| self.paced_at(pace))
+            .map_err(|refusal| Refused {
+                refusal,
+                state: self,
+            })
     }
 
     // The interval from SRTT, between bounds of the caller's.
-    #[tactic(auto, unfolding(crate::specs::Pacing::with_bounds_of))]
+    #[tactic(auto, unfolding(crate::specs::Pacing::with_bounds_of, pace::specs::Updates::paced, pace::specs::Updates::with_bounds, pace::specs::Updates::updated, refusals::specs::Answers::answered, refusals::specs::Answers::settled))]
     pub fn update_report_interval_with_bounds(
         self,
         srtt_us: i64,
         min_ms: u64,
         max_ms: u64,
-    ) -> ReceiverUpdate
-        ensures { result ≡ with_bounds_of self srtt_us min_ms max_ms }
+    ) -> Result<ReceiverState, Refused<ReceiverState>>
+        ensures { result ≡ answers.settled (with_bounds_of self srtt_us min_ms max_ms) }
     {
-        let pace = with_bounds(
-            self.keeps_rule(),
-            SRTT_MULTIPLE,
-            self.report_interval_ms,
-            self.srtt_sample_count,
-            srtt_us,
-            min_ms,
-            max_ms,
-        );
-        self.with_pace(pace)
+        self.pace()
+            .with_bounds(self.keeps_rule(), SRTT_MULTIPLE, srtt_us, min_ms, max_ms)
+            .map(|pace| self.paced_at(pace))
+            .map_err(|refusal| Refused {
+                refusal,
+                state: self,
+            })
     }
 
     // Frames have come, and the interval has passed.
@@ -79,20 +82,18 @@ impl ReceiverState {
     fn due(self, now_ms: u64) -> bool
         ensures { result ≡ is_due self now_ms }
     {
-        let last_report_ms = self.last_report_ms;
-        let passed = passed(last_report_ms, self.report_interval_ms, now_ms);
-        self.interval_has_data & passed
+        self.interval_has_data & passed(self.last_report_ms, self.report_interval_ms, now_ms)
     }
 
     // Whether it is time to send a report.
-    #[tactic(auto, unfolding(crate::specs::Pacing::should_send_of, crate::specs::State::clock_refusal, refusals::specs::Questions::first_no, refusals::specs::Questions::asked))]
-    pub fn should_send_report(self, now_ms: u64) -> AnswerBool
-        ensures { result ≡ should_send_of self now_ms }
+    #[tactic(auto, unfolding(crate::specs::Pacing::should_send_of, crate::specs::State::clock_refusal, refusals::specs::Questions::first_no, refusals::specs::Questions::asked, refusals::specs::Answers::answered, refusals::specs::Answers::answer))]
+    pub fn should_send_report(self, now_ms: u64) -> Result<bool, Refusal>
+        ensures { result ≡ answers.told (should_send_of self now_ms) }
     {
         let mut q = Questions::all_yes();
         q.state = self.keeps_rule();
         q.clocks = clock_ok(now_ms);
-        let value = self.due(now_ms);
-        AnswerBool::of(q.first_no(), value)
+        q.first_no()?;
+        Ok(self.due(now_ms))
     }
 }

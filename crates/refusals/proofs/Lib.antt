@@ -2,5 +2,6 @@
 pub mod PickedByTest
 pub mod FirstNoFound
 pub mod Clauses
+pub mod ResultsSayAll
 pub mod MissingClock
 mod RoomLeft

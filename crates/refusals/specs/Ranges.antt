@@ -1,9 +1,7 @@
 -- The numbers that the questions of document 01, "Before any figure: the checks", allow. Definitions only.
-use Rattle.std.specs.Prelude.{Bool, true, ◌&&◌, ◌||◌, ℕ, ◌+◌, ◌-◌, ◌^◌, leb, ltb, ℤ, pos, neg_ℤ, Float}
+use Rattle.std.specs.Prelude.{Bool, true, ◌&&◌, ◌||◌, ℕ, ◌+◌, ◌-◌, ◌^◌, leb, ltb, ℤ, pos, neg_ℤ, Float, None, Option, Some}
 use Rattle.std.specs.Int.Signed.{le_z}
 use Rattle.floats.specs.Operations.{zero_float, one_float, float, in_range}
-use Rattle.refusals.specs.declared.option.OptionU64.{OptionU64}
-use Rattle.refusals.specs.declared.option.OptionU64.TheVariants.{None, Some}
 
 -- question 2: 2^48 − 1 ms
 abbrev pub max_clock : ℕ
@@ -34,7 +32,7 @@ abbrev pub clock_ok : ℕ → Bool
 clock_ok ms = leb ms max_clock
 
 -- question 2: a clock reading that may be missing
-abbrev pub optional_clock_ok : OptionU64 → Bool
+abbrev pub optional_clock_ok : Option ℕ → Bool
 optional_clock_ok None = true
 optional_clock_ok (Some ms) = clock_ok ms
 

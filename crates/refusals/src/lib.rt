@@ -2,7 +2,6 @@
 
 #![tactic(auto)]
 
-pub mod answer; // answer.rt: what an accessor answers
-pub mod option; // option.rt: values that may be missing
 pub mod questions; // questions.rt: the eleven questions, and the first that is answered no
 pub mod ranges; // ranges.rt: the numbers that the questions allow
+pub mod refusal; // refusal.rt: the question that refuses, as an error

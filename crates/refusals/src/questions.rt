@@ -1,7 +1,10 @@
-// The questions as one list, and the number that refuses.
+// The questions as one list, and the first that refuses.
 
 ghost use Rattle.std.specs.Prelude.{◌≡◌};
+ghost use Rattle.refusals.specs.Answers.{passed, admitted};
 ghost use Rattle.refusals.specs.Questions.{first_no, asked, all_yes};
+
+use crate::refusal::{Refusal, Refused};
 
 // The answers to the questions of document 01, "Before any figure: the checks", in its order. A question that a call doesn't have stays true.
 #[derive(Clone, Copy)]
@@ -50,44 +53,51 @@ impl Questions {
         }
     }
 
-    // The refusal: the number of the first question that is answered no, or 0.
-    #[tactic(auto, unfolding(crate::specs::Questions::first_no, crate::specs::Questions::asked))]
-    pub fn first_no(self) -> u8
-        ensures { result ≡ first_no (asked self) }
+    // The refusal: the first question that is answered no, if one is.
+    #[tactic(auto, unfolding(crate::specs::Questions::first_no, crate::specs::Questions::asked, crate::specs::Answers::answered, crate::specs::Answers::numbered))]
+    pub fn first_no(self) -> Result<(), Refusal>
+        ensures { result ≡ passed (first_no (asked self)) }
     {
-        if self.state {} else {
-            return 1;
+        match self {
+            Self { state: false, .. } => Err(Refusal::State),
+            Self { clocks: false, .. } => Err(Refusal::Clocks),
+            Self {
+                frame_size: false,
+                ..
+            } => Err(Refusal::FrameSize),
+            Self { windows: false, .. } => Err(Refusal::Windows),
+            Self {
+                delay_samples: false,
+                ..
+            } => Err(Refusal::DelaySamples),
+            Self {
+                output_buffer: false,
+                ..
+            } => Err(Refusal::OutputBuffer),
+            Self { payload: false, .. } => Err(Refusal::Payload),
+            Self {
+                round_trip: false,
+                ..
+            } => Err(Refusal::RoundTrip),
+            Self {
+                interval_bounds: false,
+                ..
+            } => Err(Refusal::IntervalBounds),
+            Self {
+                counters: false,
+                ..
+            } => Err(Refusal::Counters),
+            Self { values: false, .. } => Err(Refusal::Values),
+            _ => Ok(()),
         }
-        if self.clocks {} else {
-            return 2;
-        }
-        if self.frame_size {} else {
-            return 3;
-        }
-        if self.windows {} else {
-            return 4;
-        }
-        if self.delay_samples {} else {
-            return 5;
-        }
-        if self.output_buffer {} else {
-            return 6;
-        }
-        if self.payload {} else {
-            return 7;
-        }
-        if self.round_trip {} else {
-            return 8;
-        }
-        if self.interval_bounds {} else {
-            return 9;
-        }
-        if self.counters {} else {
-            return 10;
-        }
-        if self.values {} else {
-            return 11;
-        }
-        0
+    }
+
+    // The same of a record's call, which hands the record back beside a refusal.
+    #[tactic(auto, unfolding(crate::specs::Answers::answered, crate::specs::Answers::admitted))]
+    pub fn admit<S: Copy>(self, state: S) -> Result<(), Refused<S>>
+        ensures { result ≡ admitted (first_no (asked self)) state }
+    {
+        self.first_no()
+            .map_err(|refusal| Refused { refusal, state })
     }
 }

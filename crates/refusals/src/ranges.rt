@@ -3,7 +3,6 @@
 ghost use Rattle.std.specs.Prelude.{◌≡◌};
 ghost use Rattle.refusals.specs.Ranges.{clock_ok, optional_clock_ok, frame_size_ok, delay_ok, round_trip_ok, smoothed_ok, bounds_ok, counter_ok, ratio_ok, etx_ok, rtt_ms_ok, trend_ok};
 
-use crate::option::OptionU64;
 use floats::in_range;
 
 // The greatest clock reading, interval and interval bound, in ms.
@@ -32,13 +31,10 @@ pub fn clock_ok(ms: u64) -> bool
 }
 
 // Question 2: a clock reading that may be missing.
-pub fn optional_clock_ok(ms: OptionU64) -> bool
+pub fn optional_clock_ok(ms: Option<u64>) -> bool
     ensures { result ≡ optional_clock_ok ms }
 {
-    match ms {
-        OptionU64::None => true,
-        OptionU64::Some(ms) => clock_ok(ms),
-    }
+    ms.is_none_or(clock_ok)
 }
 
 // Question 3: a frame's size.
@@ -76,7 +72,7 @@ pub fn bounds_ok(srtt_us: i64, min_ms: u64, max_ms: u64) -> bool
     (srtt_us <= 0) | (min_ms <= max_ms)
 }
 
-// Question 10: a counter of 32 bits that gains `more`.
+// Question 10: a counter of 32 bits that gains `more`. Two widths, each one line: joined by a trait they would be longer.
 pub fn counter_u32_ok(count: u32, more: u32) -> bool
     ensures { result ≡ counter_ok 32 count more }
 {

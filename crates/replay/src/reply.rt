@@ -1,171 +1,248 @@
-// What a call answers, by value: numbers, and whether the call's buffer follows them.
-use crate::lent::{push_bare, push_numbers};
-use crate::tables::{
-    first, flag, float_pattern, is_there, number, pattern, pattern64, wide_u8, wide_u32,
-};
-use refusals::answer::{
-    AnswerBool, AnswerF64, AnswerI64, AnswerOptionF64, AnswerOptionU32, AnswerOptionU64, AnswerU32,
-    AnswerU64,
-};
-use refusals::option::{OptionF64, OptionU32, OptionU64};
+// What a call answers: numbers, as docs/REPLAY.md writes each type.
+use crate::line::MOST;
+use codec::reader::TooShort;
+use refusals::refusal::{Refusal, Refused};
+use std::num::f64_to_bits_with_nan;
 
-// Room for the longest answer: a report and the record after it.
-const ROOM: usize = 64;
-
-#[derive(Clone, Copy)]
+#[derive(Drop)]
 pub struct Reply {
+    numbers: [u64; MOST],
     // how many of the numbers are there
-    pub count: usize,
-    pub numbers: [u64; ROOM],
-    pub with_buffer: bool,
+    count: usize,
 }
 
 impl Reply {
     pub fn new() -> Reply {
-        let numbers = [0u64; ROOM];
         Reply {
+            numbers: [0; MOST],
             count: 0,
-            numbers,
-            with_buffer: false,
         }
     }
 
-    // One number more.
-    pub fn and(self, x: u64) -> Reply {
-        let count = self.count;
-        if count < ROOM {
-            let mut reply = self;
-            reply.numbers[count] = x;
-            reply.count = count + 1;
-            return reply;
-        }
-        self
+    pub fn clear(&mut self) {
+        self.count = 0;
     }
 
-    // One more of another type, as docs/REPLAY.md writes it.
-
-    pub fn and_u8(self, x: u8) -> Reply {
-        self.and(x as u64)
+    pub fn numbers(&self) -> &[u64] {
+        self.numbers.get(..self.count).unwrap_or(&[])
     }
 
-    pub fn and_u16(self, x: u16) -> Reply {
-        self.and(x as u64)
-    }
-
-    pub fn and_u32(self, x: u32) -> Reply {
-        self.and(x as u64)
-    }
-
-    pub fn and_size(self, x: usize) -> Reply {
-        self.and(x as u64)
-    }
-
-    pub fn and_bool(self, x: bool) -> Reply {
-        self.and(flag(x))
-    }
-
-    pub fn and_i32(self, x: i32) -> Reply {
-        self.and(pattern(x))
-    }
-
-    pub fn and_i64(self, x: i64) -> Reply {
-        self.and(pattern64(x))
-    }
-
-    pub fn and_f64(self, x: f64) -> Reply {
-        self.and(float_pattern(x))
-    }
-
-    // An optional number more: whether it is there, and the number.
-    pub fn and_optional(self, n: OptionU64) -> Reply {
-        self.and(is_there(n)).and(number(n))
-    }
-
-    pub fn and_optional_u32(self, n: OptionU32) -> Reply {
-        match n {
-            OptionU32::None => self.and(0).and(0),
-            OptionU32::Some(x) => self.and(1).and(wide_u32(x)),
+    // One number more. The longest answer, a record and two windows, leaves room.
+    pub fn number(&mut self, x: u64) {
+        if let Some(slot) = self.numbers.get_mut(self.count) {
+            *slot = x;
+            self.count += 1;
         }
     }
 
-    pub fn and_optional_f64(self, n: OptionF64) -> Reply {
-        match n {
-            OptionF64::None => self.and(0).and(0),
-            OptionF64::Some(x) => self.and(1).and(float_pattern(x)),
+    pub fn put<R: Reported>(&mut self, x: R) {
+        x.report(self);
+    }
+
+    // A buffer or a window: its length and its numbers.
+    pub fn list<R: Reported>(&mut self, items: &[R]) {
+        self.put(items.len());
+        for &x in items {
+            self.put(x);
         }
     }
 
-    // Bytes more, with no length.
-    pub fn and_bytes(self, bytes: &[u8]) -> Reply {
-        let mut numbers = self.numbers;
-        let count = push_bare(&mut numbers, self.count, bytes);
-        let with_buffer = self.with_buffer;
-        Reply {
-            count,
-            numbers,
-            with_buffer,
+    // What stands for a value that is not there.
+    fn none<R: Reported>(&mut self) {
+        for _ in 0..R::width() {
+            self.number(0);
         }
     }
 
-    // With the call's buffer after the numbers.
-    pub fn and_buffer(self) -> Reply {
-        let mut reply = self;
-        reply.with_buffer = true;
-        reply
-    }
-
-    // Writes the numbers, and says how many they are.
-    pub fn push(self, answer: &mut [u64]) -> usize {
-        let count = self.count;
-        let numbers = self.numbers;
-        push_numbers(answer, 0, first(&numbers, count))
+    // A refusal's number, and zeros for the value that it stands beside.
+    fn refused<R: Reported>(&mut self, refusal: Refusal) {
+        self.put(u8::from(refusal));
+        self.none::<R>();
     }
 }
 
-pub fn one(a: u64) -> Reply {
-    Reply::new().and(a)
+// What stands in an answer, or is a part of what does.
+pub trait Reported: Copy {
+    // How many numbers it is.
+    fn width() -> usize {
+        1
+    }
+
+    fn report(self, reply: &mut Reply);
 }
 
-pub fn two(a: u64, b: u64) -> Reply {
-    Reply::new().and(a).and(b)
+impl Reported for () {
+    fn width() -> usize {
+        0
+    }
+
+    fn report(self, _reply: &mut Reply) {}
 }
 
-// The refusal; what else the call answers comes after it.
-pub fn refusal(n: u8) -> Reply {
-    one(wide_u8(n))
+impl Reported for u8 {
+    fn report(self, reply: &mut Reply) {
+        reply.number(u64::from(self));
+    }
 }
 
-pub fn of_bool(a: AnswerBool) -> Reply {
-    refusal(a.refusal).and_bool(a.value)
+impl Reported for u16 {
+    fn report(self, reply: &mut Reply) {
+        reply.number(u64::from(self));
+    }
 }
 
-pub fn of_f64(a: AnswerF64) -> Reply {
-    refusal(a.refusal).and_f64(a.value)
+impl Reported for u32 {
+    fn report(self, reply: &mut Reply) {
+        reply.number(u64::from(self));
+    }
 }
 
-pub fn of_u32(a: AnswerU32) -> Reply {
-    refusal(a.refusal).and_u32(a.value)
+impl Reported for u64 {
+    fn report(self, reply: &mut Reply) {
+        reply.number(self);
+    }
 }
 
-pub fn of_u64(a: AnswerU64) -> Reply {
-    refusal(a.refusal).and(a.value)
+impl Reported for usize {
+    fn report(self, reply: &mut Reply) {
+        reply.number(self as u64);
+    }
 }
 
-pub fn of_i64(a: AnswerI64) -> Reply {
-    refusal(a.refusal).and_i64(a.value)
+impl Reported for i32 {
+    fn report(self, reply: &mut Reply) {
+        reply.put(i64::from(self));
+    }
 }
 
-pub fn of_optional_u32(a: AnswerOptionU32) -> Reply {
-    let value = a.value;
-    refusal(a.refusal).and_optional_u32(value)
+impl Reported for i64 {
+    fn report(self, reply: &mut Reply) {
+        reply.number(self.cast_unsigned());
+    }
 }
 
-pub fn of_optional_u64(a: AnswerOptionU64) -> Reply {
-    let value = a.value;
-    refusal(a.refusal).and_optional(value)
+impl Reported for f64 {
+    fn report(self, reply: &mut Reply) {
+        reply.number(f64_to_bits_with_nan(self));
+    }
 }
 
-pub fn of_optional_f64(a: AnswerOptionF64) -> Reply {
-    let value = a.value;
-    refusal(a.refusal).and_optional_f64(value)
+impl Reported for bool {
+    fn report(self, reply: &mut Reply) {
+        reply.number(u64::from(self));
+    }
+}
+
+impl<T: Reported> Reported for Option<T> {
+    fn width() -> usize {
+        T::width().saturating_add(1)
+    }
+
+    fn report(self, reply: &mut Reply) {
+        reply.put(self.is_some());
+        match self {
+            Some(x) => reply.put(x),
+            None => reply.none::<T>(),
+        }
+    }
+}
+
+// Bytes with no length.
+impl<const N: usize> Reported for [u8; N] {
+    fn width() -> usize {
+        N
+    }
+
+    fn report(self, reply: &mut Reply) {
+        for b in self {
+            reply.put(b);
+        }
+    }
+}
+
+// A buffer. Where there is none it is the empty one: its length.
+impl Reported for &[u8] {
+    fn report(self, reply: &mut Reply) {
+        reply.list(self);
+    }
+}
+
+// A call that may refuse: the refusal, 0 for none, and the value.
+impl<T: Reported> Reported for Result<T, Refusal> {
+    fn width() -> usize {
+        T::width().saturating_add(1)
+    }
+
+    fn report(self, reply: &mut Reply) {
+        match self {
+            Ok(x) => {
+                reply.number(0);
+                reply.put(x);
+            }
+            Err(refusal) => reply.refused::<T>(refusal),
+        }
+    }
+}
+
+// A length answer, and the value.
+impl<T: Reported> Reported for Result<T, TooShort> {
+    fn width() -> usize {
+        T::width().saturating_add(3)
+    }
+
+    fn report(self, reply: &mut Reply) {
+        match self {
+            Ok(x) => {
+                reply.put([0, 0, 0]);
+                reply.put(x);
+            }
+            Err(short) => {
+                reply.put(u8::from(Refusal::Payload));
+                reply.put(short.needed);
+                reply.put(short.given);
+                reply.none::<T>();
+            }
+        }
+    }
+}
+
+// A call on a record: the refusal, and the record after.
+impl<S: Reported> Reported for Result<S, Refused<S>> {
+    fn width() -> usize {
+        S::width().saturating_add(1)
+    }
+
+    fn report(self, reply: &mut Reply) {
+        match self {
+            Ok(state) => {
+                reply.number(0);
+                reply.put(state);
+            }
+            Err(refused) => {
+                reply.put(u8::from(refused.refusal));
+                reply.put(refused.state);
+            }
+        }
+    }
+}
+
+// The same with a value, which stands before the record.
+impl<S: Reported, T: Reported> Reported for Result<(S, T), Refused<S>> {
+    fn width() -> usize {
+        S::width().saturating_add(T::width()).saturating_add(1)
+    }
+
+    fn report(self, reply: &mut Reply) {
+        match self {
+            Ok((state, x)) => {
+                reply.number(0);
+                reply.put(x);
+                reply.put(state);
+            }
+            Err(refused) => {
+                reply.refused::<T>(refused.refusal);
+                reply.put(refused.state);
+            }
+        }
+    }
 }

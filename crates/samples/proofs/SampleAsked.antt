@@ -1,4 +1,5 @@
 -- The questions of a sample: question 5 can be left out, and a sample that nothing refuses ends within the rule.
+use Rattle.std.specs.Prelude.{Option}
 use mathlib.Core.Path.{◌≡◌, refl}
 use mathlib.Core.Bool.{true, ◌&&◌, and-eq-true_iff}
 use mathlib.Core.List.{List, [], ◌∷◌}
@@ -11,11 +12,11 @@ use Rattle.refusals.proofs.FirstNoFound.{each_yes}
 use Rattle.algorithms.specs.Owd.{keeps_the_rule, windows_ok}
 use Rattle.algorithms.specs.declared.owd.OwdTrendDetector.{OwdTrendDetector}
 use Rattle.samples.specs.Delay.{reference_ok, delay_of, sample_refusal, sample_of}
-use Rattle.samples.specs.declared.delay.OwdReference.{OwdReference}
+use Rattle.samples.specs.declared.delay.OwdBase.{OwdBase}
 use Rattle.samples.proofs.DelayInRange.{delay_in_range}
 use Rattle.samples.proofs.SampleKeepsRule.{pushed_keeps_rule, base_keeps_rule}
 
-module _ (w : OwdTrendDetector) (r : OwdReference) (times : List ℕ) (delays : List ℤ) (timestamp now : ℕ) where
+module _ (w : OwdTrendDetector) (r : Option OwdBase) (times : List ℕ) (delays : List ℤ) (timestamp now : ℕ) where
   -- the sample is in range, so that question 5 leaves the number of the first no as it is
   pub sample_question_left_out : first_no (question 1 (keeps_the_rule w && reference_ok r) ∷ question 2 (clock_ok now) ∷ question 4 (windows_ok w (length times) (length delays)) ∷ []) ≡ sample_refusal w r times delays timestamp now
   unfolding sample_refusal first_no

@@ -1,4 +1,5 @@
 -- A sample ends within the rule: the jitter, the window and the reference after it keep theirs.
+use Rattle.std.specs.Prelude.{None, Option, Some}
 use mathlib.Core.Path.{◌≡◌, refl, ◌∙◌}
 use mathlib.Core.Bool.{true}
 use Prim.Native.Nat.{ℕ, ◌-◌}
@@ -13,13 +14,9 @@ use Rattle.algorithms.proofs.JitterKeepsRule.{step_keeps_rule}
 use Rattle.algorithms.proofs.OwdRuleKept.{cleared_keeps_rule, grown_keeps_capacity, grown_keeps_rule}
 use Rattle.refusals.specs.Ranges.{clock_ok}
 use Rattle.refusals.proofs.PickedByTest.{picked}
-use Rattle.refusals.specs.declared.option.OptionU64.{OptionU64}
-use Rattle.refusals.specs.declared.option.OptionU64.TheVariants as option
 use Rattle.samples.specs.Transit.{transit, jitter_after}
 use Rattle.samples.specs.Delay.{reference_ok, too_old, restarts, younger, base_of, window_for, pushed}
 use Rattle.samples.specs.declared.delay.OwdBase.{OwdBase}
-use Rattle.samples.specs.declared.delay.OwdReference.{OwdReference}
-use Rattle.samples.specs.declared.delay.OwdReference.TheVariants as reference
 use Rattle.samples.proofs.Reduction.{reduced_fits}
 
 -- D is a signed 32-bit number
@@ -27,29 +24,29 @@ pub transit_fits : (step timestamp last : ℕ) → SFits w32 (transit step times
 unfolding transit
 transit_fits step timestamp last = reduced_fits (pos 1000 *ℤ (pos step -ℤ (pos timestamp -ℤ pos last)))
 
-pub jitter_keeps_rule : (j : JitterEstimator) (recv : OptionU64) (last timestamp now : ℕ) → jitters.keeps_the_rule j ≡ true → jitters.keeps_the_rule (jitter_after j recv last timestamp now) ≡ true
-jitter_keeps_rule j option.None last timestamp now h = h
-jitter_keeps_rule j (option.Some recv) last timestamp now h = step_keeps_rule j (transit (now - recv) timestamp last) (transit_fits (now - recv) timestamp last) h
+pub jitter_keeps_rule : (j : JitterEstimator) (recv : Option ℕ) (last timestamp now : ℕ) → jitters.keeps_the_rule j ≡ true → jitters.keeps_the_rule (jitter_after j recv last timestamp now) ≡ true
+jitter_keeps_rule j None last timestamp now h = h
+jitter_keeps_rule j (Some recv) last timestamp now h = step_keeps_rule j (transit (now - recv) timestamp last) (transit_fits (now - recv) timestamp last) h
 
-pub window_keeps_rule : (w : OwdTrendDetector) (r : OwdReference) (now : ℕ) → owds.keeps_the_rule w ≡ true → owds.keeps_the_rule (window_for w r now) ≡ true
+pub window_keeps_rule : (w : OwdTrendDetector) (r : Option OwdBase) (now : ℕ) → owds.keeps_the_rule w ≡ true → owds.keeps_the_rule (window_for w r now) ≡ true
 unfolding window_for
 window_keeps_rule w r now h = picked (λ v. owds.keeps_the_rule v ≡ true) (restarts r now) (λ e. cleared_keeps_rule w h) (λ e. h)
 
 -- clearing leaves the capacity, so that the lent buffers are still as long
-pub window_keeps_capacity : (w : OwdTrendDetector) (r : OwdReference) (now : ℕ) → (window_for w r now).capacity ≡ w.capacity
+pub window_keeps_capacity : (w : OwdTrendDetector) (r : Option OwdBase) (now : ℕ) → (window_for w r now).capacity ≡ w.capacity
 unfolding window_for
 window_keeps_capacity w r now = picked (λ (v : OwdTrendDetector). v.capacity ≡ w.capacity) (restarts r now) (λ e. refl) (λ e. refl)
 
-pub pushed_keeps_rule : (w : OwdTrendDetector) (r : OwdReference) (now : ℕ) → owds.keeps_the_rule w ≡ true → owds.keeps_the_rule (pushed w r now) ≡ true
+pub pushed_keeps_rule : (w : OwdTrendDetector) (r : Option OwdBase) (now : ℕ) → owds.keeps_the_rule w ≡ true → owds.keeps_the_rule (pushed w r now) ≡ true
 unfolding pushed
 pushed_keeps_rule w r now h = grown_keeps_rule (window_for w r now) (window_keeps_rule w r now h)
 
-pub pushed_keeps_capacity : (w : OwdTrendDetector) (r : OwdReference) (now : ℕ) → (pushed w r now).capacity ≡ w.capacity
+pub pushed_keeps_capacity : (w : OwdTrendDetector) (r : Option OwdBase) (now : ℕ) → (pushed w r now).capacity ≡ w.capacity
 unfolding pushed
 pushed_keeps_capacity w r now = grown_keeps_capacity (window_for w r now) ∙ window_keeps_capacity w r now
 
 -- what a sample was measured from is a valid reference
-pub base_keeps_rule : (r : OwdReference) (now timestamp : ℕ) → reference_ok r ≡ true → clock_ok now ≡ true → clock_ok (base_of r now timestamp).recv_ms ≡ true
+pub base_keeps_rule : (r : Option OwdBase) (now timestamp : ℕ) → reference_ok r ≡ true → clock_ok now ≡ true → clock_ok (base_of r now timestamp).recv_ms ≡ true
 unfolding younger
-base_keeps_rule reference.None now timestamp h k = k
-base_keeps_rule (reference.Some recv sent) now timestamp h k = picked (λ (b : OwdBase). clock_ok b.recv_ms ≡ true) (too_old recv now) (λ e. k) (λ e. h)
+base_keeps_rule None now timestamp h k = k
+base_keeps_rule (Some b) now timestamp h k = picked (λ (d : OwdBase). clock_ok d.recv_ms ≡ true) (too_old b.recv_ms now) (λ e. k) (λ e. h)

@@ -2,26 +2,23 @@
 use mathlib.Core.Path.{◌≡◌, sym, ap, ◌∙◌}
 use Prim.Native.Nat.{ℕ, ◌+◌, ◌*◌, ◌^◌}
 use native.Mathlib.Omega.{arith}
-use lib.IntN.{pos, sub_ℕ, ◌+ℤ◌, ◌-ℤ◌, ◌*ℤ◌, +ℤ_comm}
+use lib.IntN.{pos, sub_ℕ, ◌+ℤ◌, ◌-ℤ◌, ◌*ℤ◌}
+use Rattle.std.proofs.lemmas.Int.{ints}
 use Rattle.samples.specs.Words.{reduced}
 use Rattle.samples.specs.Transit.{transit}
 use Rattle.samples.specs.Delay.{sent_ms}
-use Rattle.samples.proofs.Differences.{same_difference, negative, sum, minus, multiple}
+use Rattle.samples.proofs.Differences.{minus}
 use Rattle.samples.proofs.Reduction.{reduced_again}
 
 -- the steps as one difference
 pub steps : (step timestamp last : ℕ) → pos 1000 *ℤ (pos step -ℤ (pos timestamp -ℤ pos last)) ≡ sub_ℕ (1000 * (step + last)) (1000 * timestamp)
-steps step timestamp last =
-    ap (λ z. pos 1000 *ℤ (pos step -ℤ z)) (minus timestamp last)
-    ∙ ap (λ z. pos 1000 *ℤ (pos step +ℤ z)) (negative timestamp last)
-    ∙ ap (λ z. pos 1000 *ℤ z) (sum step last timestamp)
-    ∙ multiple 1000 (step + last) timestamp
+steps step timestamp last = rw (← minus (1000 * (step + last)) (1000 * timestamp)) (omega (arith, ints))
 
 -- whole spans taken away once more
 taken : (a b spans : ℕ) → reduced (sub_ℕ a (b + 2 ^ 32 * spans)) ≡ reduced (sub_ℕ a b)
 taken a b spans =
     let m = 2 ^ 32 * spans in
-    let back : sub_ℕ a (b + m) +ℤ pos m ≡ sub_ℕ a b = +ℤ_comm (sub_ℕ a (b + m)) (pos m) ∙ sum m a (b + m) ∙ same_difference (m + a) (b + m) a b (omega arith) in
+    let back : sub_ℕ a (b + m) +ℤ pos m ≡ sub_ℕ a b = rw (← minus a (b + m), ← minus a b) (omega (arith, ints)) in
     sym (reduced_again (sub_ℕ a (b + m)) spans) ∙ ap reduced back
 
 pub transit_unwraps : (step timestamp last spans : ℕ) → transit step (timestamp + 2 ^ 32 * spans) last ≡ transit step timestamp last

@@ -1,7 +1,5 @@
 -- The echo of a report: document 01, "Promises and the checked examples", the row of the dwell, and receiver.rs, `build_report`. Definitions only.
-use Rattle.std.specs.Prelude.{cond, ℕ, ◌-◌, ◌^◌, leb}
-use Rattle.refusals.specs.declared.option.OptionU64.{OptionU64}
-use Rattle.refusals.specs.declared.option.OptionU64.TheVariants.{None, Some}
+use Rattle.std.specs.Prelude.{cond, ℕ, ◌-◌, ◌^◌, leb, None, Option, Some}
 use Rattle.samples.specs.declared.echo.Echo.{Echo}
 
 -- a timestamp echoed, and how long it dwelt here
@@ -17,6 +15,6 @@ unfoldable pub echo_after : ℕ → ℕ → Echo
 echo_after timestamp dwell = cond (leb dwell max_dwell) (echo timestamp dwell) (echo 0 max_dwell)
 
 -- the dwell is the time since the last sample, 0 if the clock fell; no sample yet: 0 and 0
-abbrev pub echo_of : OptionU64 → ℕ → ℕ → Echo
+abbrev pub echo_of : Option ℕ → ℕ → ℕ → Echo
 echo_of None timestamp now = echo 0 0
 echo_of (Some recv) timestamp now = echo_after timestamp (now - recv)

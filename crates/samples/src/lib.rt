@@ -5,6 +5,3 @@
 pub mod delay; // delay.rt: one-way delay from a reference
 pub mod echo; // echo.rt: the echo of a report
 pub mod transit; // transit.rt: the transit difference, and the jitter after it
-
-// The sender's timestamps come again after so many ms.
-const TIMESTAMP_SPAN: u64 = 1 << 32;

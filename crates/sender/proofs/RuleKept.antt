@@ -2,17 +2,15 @@
 use Rattle.std.proofs.Common.{◌≡◌, ℕ, Bool, true, false, cond, eqb, ℤ, refl, eqb-true}
 use mathlib.Core.Bool.{and-eq-true_iff}
 use Rattle.refusals.specs.Ranges.{clock_ok}
-use Rattle.pace.specs.Updates.{cold_start_refusal, updated, from_srtt, with_bounds}
-use Rattle.pace.specs.declared.Paced.{Paced}
+use Rattle.pace.specs.Updates.{Paced, cold_start_refusal, updated, from_srtt, with_bounds}
 use Rattle.pace.proofs.QuestionsAnswered.{cold_start_asked, from_srtt_asked, with_bounds_asked}
 use Rattle.pace.proofs.IntervalAtMost.{from_srtt_in_range, with_bounds_in_range}
 use Rattle.sender.specs.State.{last_report_ok, keeps_the_rule, started_at, fresh, new_of}
 use Rattle.sender.specs.Sent.{begun, opened, counted, sent, sent_of}
 use Rattle.sender.specs.Backoff.{with_failures, failure_of, success_of}
-use Rattle.sender.specs.Reports.{report_of, some_built, none_built, built, report_refusal, built_of}
+use Rattle.sender.specs.Reports.{SenderReportBuilt, report_of, some_built, none_built, built, report_refusal, built_of}
 use Rattle.sender.specs.Pacing.{with_pace, from_srtt_of, with_bounds_of}
 use Rattle.sender.specs.declared.SenderState.{SenderState}
-use Rattle.sender.specs.declared.reports.SenderReportBuilt.{SenderReportBuilt}
 use Rattle.sender.proofs.QuestionsAnswered.{Kept, kept, state_asked, sent_asked, report_asked, failure_asked}
 
 -- the clauses make the rule

@@ -1,12 +1,13 @@
 -- A report is built, as sender.rs has it. Definitions only.
-use Rattle.std.specs.Prelude.{ℕ, true, false, cond, [], ◌∷◌, ◌==◌}
+use Rattle.std.specs.Prelude.{ℕ, Bool, true, false, cond, [], ◌∷◌, ◌==◌, Option, None, Some, Result}
+use Rattle.refusals.specs.Answers.{settled_with}
 use Rattle.refusals.specs.Questions.{question, first_no}
 use Rattle.refusals.specs.Ranges.{clock_ok}
+use Rattle.refusals.specs.declared.refusal.Refused.{Refused}
 use Rattle.wire.specs.SenderReport.{no_report}
 use Rattle.wire.specs.declared.sender_report.SenderReport.{SenderReport}
 use Rattle.sender.specs.State.{keeps_the_rule}
 use Rattle.sender.specs.declared.SenderState.{SenderState}
-use Rattle.sender.specs.declared.reports.SenderReportBuilt.{SenderReportBuilt}
 
 -- document 01, questions 1 and 2, the clock also where no report comes
 unfoldable pub report_refusal : SenderState → ℕ → ℕ
@@ -44,6 +45,17 @@ reported s now =
       srtt_sample_count = s.srtt_sample_count;
     }
 
+-- a refusal's number, 0 for none, a report, zeros where there is none, and the record after it
+pub record SenderReportBuilt : Type 0 where
+  pub refusal : ℕ
+  pub some : Bool
+  pub report : SenderReport
+  pub state : SenderState
+
+-- the report, where there is one
+unfoldable pub report_built : SenderReportBuilt → Option SenderReport
+report_built r = cond r.some (Some r.report) None
+
 -- no report: a refusal, or "No report for want of data is a plain answer"
 abbrev pub none_built : ℕ → SenderState → SenderReportBuilt
 none_built n s = record { refusal = n; some = false; report = no_report; state = s }
@@ -59,3 +71,7 @@ built s now = cond s.interval_has_data (some_built s now (report_of s)) (none_bu
 -- the same after the questions
 unfoldable pub built_of : SenderState → ℕ → SenderReportBuilt
 built_of s now = cond (report_refusal s now == 0) (built s now) (none_built (report_refusal s now) s)
+
+-- the same as the call's result
+abbrev pub built_as : SenderReportBuilt → Result (SenderState × Option SenderReport) (Refused SenderState)
+built_as b = settled_with b.refusal b.state (report_built b)

@@ -1,10 +1,10 @@
 -- A frame is sent, as sender.rs counts it, behind document 01, questions 1, 3 and 10. Definitions only.
 use Rattle.std.specs.Prelude.{ℕ, ◌+◌, ◌-◌, ◌^◌, min, Bool, true, cond, ◌&&◌, [], ◌∷◌}
+use Rattle.refusals.specs.Answers.{Update}
 use Rattle.refusals.specs.Questions.{question, first_no}
 use Rattle.refusals.specs.Ranges.{frame_size_ok, counter_ok}
 use Rattle.sender.specs.State.{keeps_the_rule, updated}
 use Rattle.sender.specs.declared.SenderState.{SenderState}
-use Rattle.sender.specs.declared.SenderUpdate.{SenderUpdate}
 
 -- the interval begins at the frame of this counter and timestamp
 abbrev pub begun : SenderState → ℕ → ℕ → SenderState
@@ -61,5 +61,5 @@ unfoldable pub sent_refusal : SenderState → ℕ → ℕ
 sent_refusal s bytes = first_no (question 1 (keeps_the_rule s) ∷ question 3 (frame_size_ok bytes) ∷ question 10 (counters_ok s bytes) ∷ [])
 
 -- the frame after the questions
-unfoldable pub sent_of : SenderState → ℕ → ℕ → ℕ → SenderUpdate
+unfoldable pub sent_of : SenderState → ℕ → ℕ → ℕ → Update SenderState
 sent_of s counter timestamp bytes = updated (sent_refusal s bytes) s (sent s counter timestamp bytes)

@@ -8,15 +8,16 @@ pub mod backoff; // backoff.rt: failures to send a report
 pub mod pacing; // pacing.rt: the report interval, and when a report is due
 
 ghost use Rattle.std.specs.Prelude.{◌≡◌};
-ghost use Rattle.refusals.specs.Answers.{answer_u64};
+ghost use Rattle.refusals.specs.Answers.{admitted, passed, settled, told};
 ghost use Rattle.sender.specs.State.{keeps_the_rule, refusal_of, started_at, fresh, new_of, packets_of, bytes_of, interval_of, failures_of};
 
 use pace::cold_start_refusal;
-use refusals::answer::{AnswerU32, AnswerU64};
 use refusals::questions::Questions;
 use refusals::ranges::clock_ok;
+use refusals::refusal::{Refusal, Refused};
 
-// What an end keeps of the frames that it sends to one peer.
+// What an end keeps of the frames that it sends to one peer. Its fields are the C interface's: so there is a flag beside the last report's time, and one
+// beside the interval, not an Option.
 #[repr(C)]
 #[derive(Clone, Copy)]
 pub struct SenderState {
@@ -45,31 +46,11 @@ pub struct SenderState {
     pub srtt_sample_count: u32,
 }
 
-// A new state, the default one on a refusal.
-#[derive(Clone, Copy)]
-pub struct SenderNew {
-    pub refusal: u8,
-    pub state: SenderState,
-}
-
-// A state after a call that may refuse.
-#[derive(Clone, Copy)]
-pub struct SenderUpdate {
-    pub refusal: u8,
-    pub state: SenderState,
-}
-
 impl SenderState {
     pub fn new() -> SenderState
         ensures { result ≡ fresh }
     {
         SenderState::started(limits::DEFAULT_COLD_START_INTERVAL_MS)
-    }
-
-    pub fn default() -> SenderState
-        ensures { result ≡ fresh }
-    {
-        SenderState::new()
     }
 
     // Nothing sent yet, with a first report interval.
@@ -94,18 +75,15 @@ impl SenderState {
     }
 
     // With a cold-start interval of the caller's.
-    #[tactic(auto, unfolding(crate::specs::State::new_of, pace::specs::Updates::cold_start_refusal, refusals::specs::Questions::first_no))]
-    pub fn new_with_cold_start(cold_start_ms: u64) -> SenderNew
-        ensures { result ≡ new_of cold_start_ms }
+    #[tactic(auto, unfolding(crate::specs::State::new_of, refusals::specs::Answers::settled, refusals::specs::Answers::answered))]
+    pub fn new_with_cold_start(cold_start_ms: u64) -> Result<SenderState, Refused<SenderState>>
+        ensures { result ≡ settled (new_of cold_start_ms) }
     {
-        let refusal = cold_start_refusal(cold_start_ms);
-        if refusal == 0 {
-            let state = SenderState::started(cold_start_ms);
-            SenderNew { refusal, state }
-        } else {
-            let state = SenderState::new();
-            SenderNew { refusal, state }
-        }
+        cold_start_refusal(cold_start_ms).map_err(|refusal| Refused {
+            refusal,
+            state: SenderState::new(),
+        })?;
+        Ok(SenderState::started(cold_start_ms))
     }
 
     #[tactic(auto, unfolding(crate::specs::State::keeps_the_rule))]
@@ -113,53 +91,68 @@ impl SenderState {
         ensures { result ≡ keeps_the_rule self }
     {
         let last_report = !self.has_last_report | clock_ok(self.last_report_ms);
-        let interval = clock_ok(self.report_interval_ms);
-        last_report & interval
+        last_report & clock_ok(self.report_interval_ms)
     }
 
-    #[tactic(auto, unfolding(crate::specs::State::refusal_of, refusals::specs::Questions::first_no, crate::specs::State::keeps_the_rule, refusals::specs::Questions::asked))]
-    fn refusal(self) -> u8
-        ensures { result ≡ refusal_of self }
+    // Question 1 alone: ewma.rt says why each record has these lines.
+    #[tactic(auto, unfolding(crate::specs::State::refusal_of, refusals::specs::Questions::first_no, refusals::specs::Questions::asked))]
+    fn ask(self) -> Result<(), Refusal>
+        ensures { result ≡ passed (refusal_of self) }
     {
         let mut q = Questions::all_yes();
         q.state = self.keeps_rule();
         q.first_no()
     }
 
+    // The same of a call that moves the record.
+    #[tactic(auto, unfolding(crate::specs::State::refusal_of, refusals::specs::Questions::first_no, refusals::specs::Questions::asked))]
+    fn admit(self) -> Result<(), Refused<SenderState>>
+        ensures { result ≡ admitted (refusal_of self) self }
+    {
+        let mut q = Questions::all_yes();
+        q.state = self.keeps_rule();
+        q.admit(self)
+    }
+
     // --- Accessors ---
 
-    #[tactic(auto, unfolding(crate::specs::State::refusal_of, refusals::specs::Questions::first_no, crate::specs::State::keeps_the_rule, refusals::specs::Answers::answer_u64))]
-    fn answer_u64(self, value: u64) -> AnswerU64
-        ensures { result ≡ answer_u64 (refusal_of self) value }
+    #[tactic(auto, unfolding(refusals::specs::Answers::answered, refusals::specs::Answers::answer))]
+    pub fn cumulative_packets_sent(self) -> Result<u64, Refusal>
+        ensures { result ≡ told (packets_of self) }
     {
-        AnswerU64::of(self.refusal(), value)
+        self.ask()?;
+        Ok(self.cumulative_packets_sent)
     }
 
-    #[tactic(auto, unfolding(crate::specs::State::refusal_of, refusals::specs::Questions::first_no, crate::specs::State::keeps_the_rule, refusals::specs::Answers::answer_u64))]
-    pub fn cumulative_packets_sent(self) -> AnswerU64
-        ensures { result ≡ packets_of self }
+    #[tactic(auto, unfolding(refusals::specs::Answers::answered, refusals::specs::Answers::answer))]
+    pub fn cumulative_bytes_sent(self) -> Result<u64, Refusal>
+        ensures { result ≡ told (bytes_of self) }
     {
-        self.answer_u64(self.cumulative_packets_sent)
+        self.ask()?;
+        Ok(self.cumulative_bytes_sent)
     }
 
-    #[tactic(auto, unfolding(crate::specs::State::refusal_of, refusals::specs::Questions::first_no, crate::specs::State::keeps_the_rule, refusals::specs::Answers::answer_u64))]
-    pub fn cumulative_bytes_sent(self) -> AnswerU64
-        ensures { result ≡ bytes_of self }
+    #[tactic(auto, unfolding(refusals::specs::Answers::answered, refusals::specs::Answers::answer))]
+    pub fn report_interval_ms(self) -> Result<u64, Refusal>
+        ensures { result ≡ told (interval_of self) }
     {
-        self.answer_u64(self.cumulative_bytes_sent)
+        self.ask()?;
+        Ok(self.report_interval_ms)
     }
 
-    #[tactic(auto, unfolding(crate::specs::State::refusal_of, refusals::specs::Questions::first_no, crate::specs::State::keeps_the_rule, refusals::specs::Answers::answer_u64))]
-    pub fn report_interval_ms(self) -> AnswerU64
-        ensures { result ≡ interval_of self }
+    #[tactic(auto, unfolding(refusals::specs::Answers::answered, refusals::specs::Answers::answer))]
+    pub fn consecutive_send_failures(self) -> Result<u32, Refusal>
+        ensures { result ≡ told (failures_of self) }
     {
-        self.answer_u64(self.report_interval_ms)
+        self.ask()?;
+        Ok(self.consecutive_send_failures)
     }
+}
 
-    #[tactic(auto, unfolding(crate::specs::State::refusal_of, refusals::specs::Questions::first_no, crate::specs::State::keeps_the_rule, refusals::specs::Answers::answer_u32))]
-    pub fn consecutive_send_failures(self) -> AnswerU32
-        ensures { result ≡ failures_of self }
-    {
-        AnswerU32::of(self.refusal(), self.consecutive_send_failures)
+impl Default for SenderState {
+    ghost is_default = { λ x. x ≡ fresh };
+
+    fn default() -> SenderState {
+        SenderState::new()
     }
 }

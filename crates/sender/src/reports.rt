@@ -1,33 +1,13 @@
 // A report is built.
 
 ghost use Rattle.std.specs.Prelude.{◌≡◌};
-ghost use Rattle.sender.specs.Reports.{report_of, none_built, built, built_of};
+ghost use Rattle.sender.specs.Reports.{report_of, reported, built_of, built_as};
 
 use crate::SenderState;
 use refusals::questions::Questions;
 use refusals::ranges::clock_ok;
-use wire::sender_report::{SenderReport, no_report};
-
-// A report, zeros where there is none, and the state after it.
-#[derive(Clone, Copy)]
-pub struct SenderReportBuilt {
-    pub refusal: u8,
-    pub some: bool,
-    pub report: SenderReport,
-    pub state: SenderState,
-}
-
-// No report: a refusal, or nothing sent.
-fn none_built(refusal: u8, state: SenderState) -> SenderReportBuilt
-    ensures { result ≡ none_built refusal state }
-{
-    SenderReportBuilt {
-        refusal,
-        some: false,
-        report: no_report(),
-        state,
-    }
-}
+use refusals::refusal::Refused;
+use wire::sender_report::SenderReport;
 
 impl SenderState {
     // The interval as a report says it.
@@ -45,42 +25,35 @@ impl SenderState {
         }
     }
 
-    // The report alone, for a caller that has asked its questions. It ends the interval.
-    #[tactic(auto, unfolding(crate::specs::Reports::built, wire::specs::SenderReport::no_report))]
-    fn build(self, now_ms: u64) -> SenderReportBuilt
-        ensures { result ≡ built self now_ms }
+    // The interval has ended: nothing sent yet in the next.
+    fn reported(self, now_ms: u64) -> SenderState
+        ensures { result ≡ reported self now_ms }
     {
-        if self.interval_has_data {
-            let report = self.report();
-            let mut state = self;
-            state.interval_has_data = false;
-            state.interval_bytes_sent = 0;
-            state.has_last_report = true;
-            state.last_report_ms = now_ms;
-            SenderReportBuilt {
-                refusal: 0,
-                some: true,
-                report,
-                state,
-            }
-        } else {
-            none_built(0, self)
+        SenderState {
+            interval_has_data: false,
+            interval_bytes_sent: 0,
+            has_last_report: true,
+            last_report_ms: now_ms,
+            ..self
         }
     }
 
-    // No report where no frame has been sent since the last one.
-    #[tactic(auto, unfolding(crate::specs::Reports::built_of, crate::specs::Reports::report_refusal, refusals::specs::Questions::first_no, crate::specs::State::keeps_the_rule, crate::specs::Reports::built, wire::specs::SenderReport::no_report, refusals::specs::Questions::asked))]
-    pub fn build_report(self, now_ms: u64) -> SenderReportBuilt
-        ensures { result ≡ built_of self now_ms }
+    // A report ends the interval. No report where no frame has been sent since the last one.
+    #[tactic(auto, unfolding(crate::specs::Reports::report_built, crate::specs::Reports::built_of, crate::specs::Reports::built, crate::specs::Reports::report_refusal, refusals::specs::Questions::first_no, refusals::specs::Questions::asked, refusals::specs::Answers::admitted, refusals::specs::Answers::settled_with))]
+    pub fn build_report(
+        self,
+        now_ms: u64,
+    ) -> Result<(SenderState, Option<SenderReport>), Refused<SenderState>>
+        ensures { result ≡ built_as (built_of self now_ms) }
     {
         let mut q = Questions::all_yes();
         q.state = self.keeps_rule();
         q.clocks = clock_ok(now_ms);
-        let refusal = q.first_no();
-        if refusal == 0 {
-            self.build(now_ms)
+        q.admit(self)?;
+        if self.interval_has_data {
+            Ok((self.reported(now_ms), Some(self.report())))
         } else {
-            none_built(refusal, self)
+            Ok((self, None))
         }
     }
 }

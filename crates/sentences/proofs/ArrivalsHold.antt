@@ -1,4 +1,5 @@
 -- WHERE A FRAME STANDS is answered by the expected counter, which follows from the counters of the frames before.
+use Rattle.std.specs.Prelude.{None, Option, Some}
 use mathlib.Core.Path.{◌≡◌, refl, ap, ◌∙◌}
 use mathlib.Core.Bool.{Bool, true, false, cond}
 use mathlib.Core.List.{List, [], ◌∷◌}
@@ -6,8 +7,6 @@ use Prim.Native.Nat.{ℕ, ◌+◌, ◌-◌, ◌≤◌, ◌<◌, ◌^◌, min, ma
 use native.Mathlib.Omega.{arith}
 use lib.Dec.{ltb}
 use borrow.Author.Tests.{ltb-true, ltb-false}
-use Rattle.refusals.specs.declared.option.OptionU64.{OptionU64}
-use Rattle.refusals.specs.declared.option.OptionU64.TheVariants.{None, Some}
 use Rattle.gaps.specs.Gaps as gaps
 use Rattle.gaps.specs.Checked.{observe_of}
 use Rattle.gaps.proofs.DueFollows.{due_follows}
@@ -68,7 +67,7 @@ first_stands counter =
       behind = λ n. (λ e. never cc, λ p. let c = p.came in never cc);
     }
 
-stands : (due : OptionU64) (counter : ℕ) → Stands due counter (gaps.arrival_at due counter)
+stands : (due : Option ℕ) (counter : ℕ) → Stands due counter (gaps.arrival_at due counter)
 unfolding gaps.arrival_after
 stands None counter = first_stands counter
 stands (Some expected) counter = go (ltb expected counter) (ltb counter expected) (ltb-true expected counter) (ltb-false expected counter) (ltb-true counter expected) (ltb-false counter expected)
@@ -99,7 +98,7 @@ due_after_lem [] t highest e = let m : min (highest + 1) (2 ^ 64 - 1) ≡ min (m
 due_after_lem (counter ∷ counters) t highest e =
     let m : min (max (max highest counter) (greatest counters) + 1) (2 ^ 64 - 1) ≡ min (max highest (max counter (greatest counters)) + 1) (2 ^ 64 - 1) = omega arith in
     due_after_lem counters (gaps.tracked_after t.expected_next t counter) (max highest counter)
-    (ap (λ (o : OptionU64). (gaps.tracked_after o t counter).expected_next) e ∙ ap Some (due_follows highest counter))
+    (ap (λ (o : Option ℕ). (gaps.tracked_after o t counter).expected_next) e ∙ ap Some (due_follows highest counter))
     ∙ ap Some m
 
 pub due_told : (counter : ℕ) (counters : List ℕ) → (after gaps.fresh (counter ∷ counters)).expected_next ≡ Some (due_after counter counters)

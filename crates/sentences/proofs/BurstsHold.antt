@@ -1,4 +1,5 @@
 -- THE BURSTS IN A REPORT are those of the gaps between the counters of the interval's frames.
+use Rattle.std.specs.Prelude.{Option, Some}
 use Prim.Native.Nat.{ℕ, zero, suc, ◌+◌, ◌-◌, ◌*◌, ◌/◌, ◌^◌, ◌≤◌, ◌<◌, min, max}
 use mathlib.Core.Path.{◌≡◌, refl, ap, ap₂, ◌∙◌}
 use mathlib.Core.Bool.{Bool, true, false, cond, true≢false}
@@ -7,8 +8,6 @@ use lib.ListN.{length}
 use lib.Dec.{ltb}
 use native.Mathlib.Omega.{arith}
 use borrow.Author.Tests.{ltb-false, ne_eqb}
-use Rattle.refusals.specs.declared.option.OptionU64.{OptionU64}
-use Rattle.refusals.specs.declared.option.OptionU64.TheVariants.{Some}
 use Rattle.gaps.specs.Gaps as gaps
 use Rattle.gaps.specs.Stats.{mean_burst, cleared, stats_of}
 use Rattle.gaps.specs.declared.Arrival.TheVariants.{Gap, Behind, InSequence}
@@ -178,4 +177,4 @@ pub gap_told : (t : GapTracker) (highest counter : ℕ) → counter < 2 ^ 64 →
 unfolding gaps.observed
 gap_told t highest counter wide e =
     let same : counter - due highest ≡ counter - (highest + 1) = omega arith in
-    ap (λ (o : OptionU64). gaps.lost_before (gaps.arrival_at o counter)) e ∙ lost_is_gap (due highest) counter ∙ same
+    ap (λ (o : Option ℕ). gaps.lost_before (gaps.arrival_at o counter)) e ∙ lost_is_gap (due highest) counter ∙ same

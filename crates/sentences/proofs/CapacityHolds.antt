@@ -1,4 +1,5 @@
 -- THE CAPACITY of a new window is the requested size, clamped; and a window that is wider than that is refused by 1, whatever is lent beside it.
+use Rattle.std.specs.Prelude.{Option}
 use mathlib.Core.Path.{◌≡◌, refl}
 use mathlib.Core.Bool.{true, false}
 use mathlib.Core.List.{List}
@@ -12,7 +13,7 @@ use Rattle.algorithms.specs.Owd as owd
 use Rattle.algorithms.specs.OwdTrend.{trend_answer}
 use Rattle.algorithms.specs.declared.owd.OwdTrendDetector.{OwdTrendDetector}
 use Rattle.samples.specs.Delay.{sample_refusal}
-use Rattle.samples.specs.declared.delay.OwdReference.{OwdReference}
+use Rattle.samples.specs.declared.delay.OwdBase.{OwdBase}
 use Rattle.receiver.specs.State as receiver
 use Rattle.sentences.specs.Checks.{clock}
 use Rattle.sentences.specs.Capacity.{least, greatest, Clamped}
@@ -47,6 +48,6 @@ module _ (w : OwdTrendDetector) (wide : greatest < w.capacity) where
   unfolding owd.clear_answer first_no
   wide_clear = rw wide_lawless refl
 
-  pub wide_sample : (r : OwdReference) (times : List ℕ) (delays : List ℤ) (timestamp now : ℕ) → sample_refusal w r times delays timestamp now ≡ 1
+  pub wide_sample : (r : Option OwdBase) (times : List ℕ) (delays : List ℤ) (timestamp now : ℕ) → sample_refusal w r times delays timestamp now ≡ 1
   unfolding sample_refusal first_no
   wide_sample r times delays timestamp now = rw wide_lawless refl

@@ -10,8 +10,8 @@ use lib.ListN.{length}
 use lib.Ieee.{Float}
 use borrow.Author.Tests.{ltb-true, ltb-false, le-leb, lt-leb}
 use Rattle.refusals.specs.Ranges as ranges
-use Rattle.codec.specs.Reading.{needed_for, length_answer, values_of}
-use Rattle.codec.specs.declared.reader.Length.TheVariants.{Enough, TooShort}
+use Rattle.std.specs.Prelude.{Ok, Err}
+use Rattle.codec.specs.Reading.{too_short, length_answer, values_of}
 use Rattle.wire.specs.Payload.{room_answer}
 use Rattle.wire.specs.SenderReport as sender
 use Rattle.wire.specs.ReceiverReport as receiver
@@ -74,7 +74,7 @@ pub sender_payload : (s : List ℕ) → (sender.decoded s).refusal ≡ paper.pay
 unfolding sender.decoded sender.decoded_by length_answer values_of
 sender_payload s = go (leb 47 (length s))
   where
-    go : (b : Bool) → (values_of (cond b Enough (TooShort (needed_for 0 47) (length s)))).refusal ≡ cond b 0 7
+    go : (b : Bool) → (values_of (cond b (Ok tt) (Err (too_short s 0 47)))).refusal ≡ cond b 0 7
     go true = refl
     go false = refl
 
@@ -82,6 +82,6 @@ pub receiver_payload : (s : List ℕ) → (receiver.decoded s).refusal ≡ paper
 unfolding receiver.decoded receiver.decoded_by length_answer values_of
 receiver_payload s = go (leb 67 (length s))
   where
-    go : (b : Bool) → (values_of (cond b Enough (TooShort (needed_for 0 67) (length s)))).refusal ≡ cond b 0 7
+    go : (b : Bool) → (values_of (cond b (Ok tt) (Err (too_short s 0 67)))).refusal ≡ cond b 0 7
     go true = refl
     go false = refl

@@ -1,8 +1,6 @@
 -- Where a frame stands: document 02, W-203, "The gap tracker's answer becomes one of four: first, in sequence, a gap of n, or behind by n, where n is expected minus counter".
 -- Definitions only.
-use Rattle.std.specs.Prelude.{◌≡◌, ℕ, ◌+◌, ◌-◌, ◌≤◌, ◌^◌, min, List, ◌∷◌}
-use Rattle.refusals.specs.declared.option.OptionU64.{OptionU64}
-use Rattle.refusals.specs.declared.option.OptionU64.TheVariants.{None, Some}
+use Rattle.std.specs.Prelude.{◌≡◌, ℕ, ◌+◌, ◌-◌, ◌≤◌, ◌^◌, min, List, ◌∷◌, None, Option, Some}
 use Rattle.gaps.specs.declared.Arrival.{Arrival}
 use Rattle.gaps.specs.declared.Arrival.TheVariants.{First, InSequence, Gap, Behind}
 use Rattle.sentences.specs.Bursts.{greatest}
@@ -12,20 +10,20 @@ abbrev pub Exactly : Type 0 → Type 0 → Type 0
 Exactly A B = (A → B) × (B → A)
 
 -- the counter is n past the expected one, or n below it: a frame came before, and n is at least 1
-pub record Past (due : OptionU64) (counter n : ℕ) : Type 0 where
+pub record Past (due : Option ℕ) (counter n : ℕ) : Type 0 where
   pub expected : ℕ
   pub came : due ≡ Some expected
   pub apart : counter ≡ expected + n
   pub some : 1 ≤ n
 
-pub record Below (due : OptionU64) (counter n : ℕ) : Type 0 where
+pub record Below (due : Option ℕ) (counter n : ℕ) : Type 0 where
   pub expected : ℕ
   pub came : due ≡ Some expected
   pub apart : expected ≡ counter + n
   pub some : 1 ≤ n
 
 -- what is answered of a frame of this counter, where this one was expected, or none before the first frame
-pub record Stands (due : OptionU64) (counter : ℕ) (answer : Arrival) : Type 0 where
+pub record Stands (due : Option ℕ) (counter : ℕ) (answer : Arrival) : Type 0 where
   pub first : Exactly (answer ≡ First) (due ≡ None)
   pub in_sequence : Exactly (answer ≡ InSequence) (due ≡ Some counter)
   pub gap : (n : ℕ) → Exactly (answer ≡ Gap n) (Past due counter n)

@@ -1,15 +1,12 @@
 -- Document 01, "State rule", of each record and of what stands in it. Definitions only.
-use Rattle.std.specs.Prelude.{Bool, true, cond, not, ◌&&◌, ◌||◌, ℕ, ◌+◌, ◌-◌, ◌*◌, ◌≤◌, leb, ltb, eqb, Float}
-use Rattle.refusals.specs.declared.option.OptionU64.{OptionU64}
-use Rattle.refusals.specs.declared.option.OptionU64.TheVariants as option
+use Rattle.std.specs.Prelude.{Bool, true, cond, not, ◌&&◌, ◌||◌, ℕ, ◌+◌, ◌-◌, ◌*◌, ◌≤◌, leb, ltb, eqb, Float, None, Option, Some}
 use Rattle.algorithms.specs.declared.jitter.JitterEstimator.{JitterEstimator}
 use Rattle.algorithms.specs.declared.srtt.SrttEstimator.{SrttEstimator}
 use Rattle.algorithms.specs.declared.ewma.DualEwma.{DualEwma}
 use Rattle.algorithms.specs.declared.owd.OwdTrendDetector.{OwdTrendDetector}
 use Rattle.algorithms.specs.declared.spin.SpinBitState.{SpinBitState}
 use Rattle.gaps.specs.declared.GapTracker.{GapTracker}
-use Rattle.samples.specs.declared.delay.OwdReference.{OwdReference}
-use Rattle.samples.specs.declared.delay.OwdReference.TheVariants as reference
+use Rattle.samples.specs.declared.delay.OwdBase.{OwdBase}
 use Rattle.sender.specs.declared.SenderState.{SenderState}
 use Rattle.receiver.specs.declared.ReceiverState.{ReceiverState}
 use Rattle.metrics.specs.declared.MmpMetrics.{MmpMetrics}
@@ -17,23 +14,23 @@ use Rattle.sentences.specs.Capacity.{least, greatest}
 use Rattle.sentences.specs.Checks.{up_to, between, clock, ratio, etx}
 
 -- "Clock fields and the report interval obey question 2"
-abbrev pub optional_clock : OptionU64 → Bool
-optional_clock option.None = true
-optional_clock (option.Some ms) = clock ms
+abbrev pub optional_clock : Option ℕ → Bool
+optional_clock None = true
+optional_clock (Some ms) = clock ms
 
 -- "a grace deadline may be 15,000 ms higher"
-abbrev pub deadline : OptionU64 → Bool
-deadline option.None = true
-deadline (option.Some ms) = leb ms 281474976725655
+abbrev pub deadline : Option ℕ → Bool
+deadline None = true
+deadline (Some ms) = leb ms 281474976725655
 
 -- "Capacity is clamped to 2 to 256, and the state rule follows": document 02, W-202; "live count at most capacity, first slot below it"
 abbrev pub window : OwdTrendDetector → Bool
 window w = leb least w.capacity && leb w.capacity greatest && leb w.count w.capacity && ltb w.first w.capacity
 
 -- "the OWD reference is absent or a valid pair"
-abbrev pub reference_pair : OwdReference → Bool
-reference_pair reference.None = true
-reference_pair (reference.Some recv timestamp) = clock recv
+abbrev pub reference_pair : Option OwdBase → Bool
+reference_pair None = true
+reference_pair (Some base) = clock base.recv_ms
 
 -- "Scaled jitter is 0 to 2^35"
 abbrev pub jitter : JitterEstimator → Bool

@@ -2,9 +2,8 @@
 use Prim.Native.Nat.{ℕ}
 use mathlib.Core.Path.{◌≡◌, refl}
 use mathlib.Core.List.{List}
-use Rattle.codec.specs.Reading.{length_answer, values_of, by_length}
-use Rattle.codec.specs.declared.reader.Length.{Length}
-use Rattle.codec.specs.declared.reader.Length.TheVariants.{Enough, TooShort}
+use Rattle.codec.specs.Reading.{Length, length_answer, values_of, by_length}
+use Rattle.std.specs.Prelude.{Ok, Err}
 use Rattle.wire.specs.SenderReport as Sender
 use Rattle.wire.specs.ReceiverReport as Receiver
 use Rattle.siwolkert.specs.PayloadCheck.{check_status, check_needed, check_given}
@@ -19,8 +18,8 @@ unfolding check_status check_needed check_given values_of by_length
 as_valued n s = go (length_answer s 0 n)
   where
     go : (answer : Length) → let v = values_of answer in (v.refusal ≡ v.refusal) × (by_length answer 0 v.needed ≡ v.needed) × (by_length answer 0 v.given ≡ v.given)
-    go Enough = (refl, refl, refl)
-    go (TooShort needed given) = (refl, refl, refl)
+    go (Ok enough) = (refl, refl, refl)
+    go (Err short) = (refl, refl, refl)
 
 pub sender_as_decoded : (s : List ℕ) → Same 47 s (Sender.decoded s).refusal (Sender.decoded s).needed (Sender.decoded s).given
 unfolding Sender.decoded Sender.decoded_by

@@ -7,7 +7,7 @@ use Rattle.refusals.proofs.PickedByTest.{yes, no}
 use Rattle.sender.specs.Sent.{sent_of}
 use Rattle.sender.specs.Reports.{built, built_of}
 use Rattle.sender.specs.declared.SenderState.{SenderState}
-use Rattle.sender.specs.declared.reports.SenderReportBuilt.{SenderReportBuilt}
+use Rattle.sender.specs.Reports.{SenderReportBuilt}
 use Rattle.sender.proofs.RuleKept.{report_refusal_lem}
 use Rattle.wire.specs.declared.sender_report.SenderReport.{SenderReport}
 use Rattle.siwolkert.specs.Lent.{some_into, report_into}

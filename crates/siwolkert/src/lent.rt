@@ -7,26 +7,23 @@ ghost use Rattle.siwolkert.specs.Lent.{some_into, report_into};
 
 use refusals::questions::Questions;
 use sender::SenderState;
-use wire::sender_report::SenderReport;
+use wire::sender_report::{SenderReport, no_report};
 
 // Whether a record keeps the state rule.
+#[tactic(auto, unfolding(sender::specs::State::refusal_of, refusals::specs::Questions::first_no, refusals::specs::Questions::asked, refusals::specs::Answers::answered, refusals::specs::Answers::numbered))]
 pub fn siwolkert_sender_check(state: &SenderState) -> u8
     ensures { result ≡ refusal_of state.now }
 {
-    rule_status(*state)
-}
-
-#[tactic(auto, unfolding(sender::specs::State::refusal_of, refusals::specs::Questions::first_no, refusals::specs::Questions::asked))]
-fn rule_status(state: SenderState) -> u8
-    ensures { result ≡ refusal_of state }
-{
     let mut q = Questions::all_yes();
     q.state = state.keeps_rule();
-    q.first_no()
+    match q.first_no() {
+        Ok(()) => 0,
+        Err(refusal) => refusal.into(),
+    }
 }
 
 // A frame is sent.
-#[tactic(auto, unfolding(sender::specs::Sent::sent_of))]
+#[tactic(auto, unfolding(sender::specs::Sent::sent_of, sender::specs::Sent::sent_refusal, refusals::specs::Questions::first_no, refusals::specs::Answers::settled, refusals::specs::Answers::numbered))]
 pub fn siwolkert_sender_record_sent(
     state: &mut SenderState,
     counter: u64,
@@ -36,15 +33,17 @@ pub fn siwolkert_sender_record_sent(
     ensures { (result ≡ (sent_of state.old counter timestamp bytes).refusal)
         × (state.new ≡ (sent_of state.old counter timestamp bytes).state) }
 {
-    let sent = state.record_sent(counter, timestamp, bytes);
-    if sent.refusal == 0 {
-        *state = sent.state;
+    match state.record_sent(counter, timestamp, bytes) {
+        Ok(sent) => {
+            *state = sent;
+            0
+        }
+        Err(refused) => refused.refusal.into(),
     }
-    sent.refusal
 }
 
 // A report is built where a frame has been sent since the last one; else `some` is false and the report zeros.
-#[tactic(auto, using(crate::proofs::RefusedStays::report_stays), unfolding(crate::specs::Lent::some_into, crate::specs::Lent::report_into))]
+#[tactic(auto, unfolding(crate::specs::Lent::some_into, crate::specs::Lent::report_into, sender::specs::Reports::built_of, sender::specs::Reports::built, sender::specs::Reports::report_built, sender::specs::Reports::report_refusal, refusals::specs::Questions::first_no, refusals::specs::Answers::settled_with, refusals::specs::Answers::numbered))]
 pub fn siwolkert_sender_build_report(
     state: &mut SenderState,
     now_ms: u64,
@@ -56,11 +55,13 @@ pub fn siwolkert_sender_build_report(
         × (some.new ≡ some_into state.old now_ms some.old)
         × (report.new ≡ report_into state.old now_ms report.old) }
 {
-    let built = state.build_report(now_ms);
-    if built.refusal == 0 {
-        *state = built.state;
-        *some = built.some;
-        *report = built.report;
+    match state.build_report(now_ms) {
+        Ok((built, reported)) => {
+            *state = built;
+            *some = reported.is_some();
+            *report = reported.unwrap_or(no_report());
+            0
+        }
+        Err(refused) => refused.refusal.into(),
     }
-    built.refusal
 }

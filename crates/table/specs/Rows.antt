@@ -1,11 +1,10 @@
 -- Document 01, "Promises and the checked examples": its twelve rows, in its order, each by the definitions that the functions' contracts cite.
 -- Definitions only.
-use Rattle.std.specs.Prelude.{false, cond, ℕ, ◌^◌, ◌-◌, ℤ, pos, negsuc, Float}
+use Rattle.std.specs.Prelude.{false, cond, ℕ, ◌^◌, ◌-◌, ℤ, pos, negsuc, Float, Some}
 use mathlib.Core.List.{List, [], ◌∷◌, foldl}
 use Rattle.std.specs.Float.{fin}
 use Rattle.floats.specs.Operations as floats
 use Rattle.floats.specs.Operations.{zero_float, one_float}
-use Rattle.refusals.specs.declared.option.OptionU64.TheVariants as option
 use Rattle.wire.specs.declared.receiver_report.ReceiverReport.{ReceiverReport}
 use Rattle.algorithms.specs.Jitter as jitters
 use Rattle.algorithms.specs.Srtt as estimators
@@ -140,10 +139,10 @@ table =
     )
     -- dwell 65535 / 65536: echo kept / echo 0, dwell 65535
     ∷ (
-    whole (echo_of (option.Some 0) 7 65535).timestamp_echo 7
-    ∷ whole (echo_of (option.Some 0) 7 65535).dwell_time 65535
-    ∷ whole (echo_of (option.Some 0) 7 65536).timestamp_echo 0
-    ∷ whole (echo_of (option.Some 0) 7 65536).dwell_time 65535
+    whole (echo_of (Some 0) 7 65535).timestamp_echo 7
+    ∷ whole (echo_of (Some 0) 7 65535).dwell_time 65535
+    ∷ whole (echo_of (Some 0) 7 65536).timestamp_echo 0
+    ∷ whole (echo_of (Some 0) 7 65536).dwell_time 65535
     ∷ []
     )
     -- ratios 0.5, 0.5 / 0, 1: ETX 4 / 100

@@ -2,6 +2,7 @@
 mod Messages
 mod Blocks
 mod Fields
+mod Decoded
 pub mod SenderRoundTrip
 pub mod ReceiverRoundTrip
 pub mod PathMtuRoundTrip

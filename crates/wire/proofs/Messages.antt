@@ -2,20 +2,31 @@
 use Prim.Native.Nat.{ℕ, ◌+◌, ◌-◌, ◌≤◌, ◌<◌}
 use mathlib.Core.Path.{◌≡◌, sym, ap, ◌∙◌}
 use mathlib.Core.List.{List, ◌++◌}
-use lib.ListN.{length, get_or, take, drop, length-append, length-drop, get_or-append}
-use lib.Seq.{take-length, get_or-drop}
+use lib.ListN.{length, get_or, drop, length-append, length-drop, get_or-append}
+use lib.Seq.{get_or-drop}
 use native.Mathlib.Omega.{arith}
 use borrow.Author.Tests.{le-leb, lt-leb}
+use Rattle.std.specs.Prelude.{Result, Ok, Err}
+use Rattle.refusals.specs.Answers.{answered, passed, numbered}
+use Rattle.refusals.specs.declared.refusal.Refusal.{Refusal}
+use Rattle.refusals.specs.declared.refusal.Refusal.TheVariants.{OutputBuffer}
+use Rattle.codec.specs.LittleEndian.{le_bytes}
+use Rattle.wire.specs.SenderReport as Sender
+use Rattle.wire.specs.ReceiverReport as Receiver
+use Rattle.wire.specs.declared.sender_report.SenderReport.{SenderReport}
+use Rattle.wire.specs.declared.receiver_report.ReceiverReport.{ReceiverReport}
 use Rattle.wire.specs.Payload.{room_answer, written_into, AlikeOn}
 
-pub room : (n : ℕ) (out : List ℕ) → n ≤ length out → 0 ≡ room_answer n out
-unfolding room_answer
+-- ---- the answer: nothing, or the refusal 6
+pub room : (n : ℕ) (out : List ℕ) → n ≤ length out → ◌≡◌ {A = Result (Unit {0}) Refusal} (Ok tt) (passed (room_answer n out))
+unfolding room_answer answered
 room n out h = simp (le-leb _ _ h)
 
-pub no_room : (n : ℕ) (out : List ℕ) → length out < n → 6 ≡ room_answer n out
-unfolding room_answer
+pub no_room : (n : ℕ) (out : List ℕ) → length out < n → ◌≡◌ {A = Result (Unit {0}) Refusal} (Err OutputBuffer) (passed (room_answer n out))
+unfolding room_answer answered numbered
 no_room n out h = simp (lt-leb _ _ h)
 
+-- ---- the buffer after
 pub untouched : (out message : List ℕ) → length out < length message → out ≡ written_into out message
 unfolding written_into
 untouched out message h = simp (lt-leb _ _ h)
@@ -24,9 +35,37 @@ pub written : (out message : List ℕ) → length message ≤ length out → mes
 unfolding written_into
 written out message h = simp (le-leb _ _ h)
 
--- a block that holds the message, copied over the buffer's first bytes
-pub copied : (block out message : List ℕ) → block ≡ message → length message ≤ length out → take (length block) block ++ drop (length block) out ≡ written_into out message
-copied block out message e h = rw (e, take-length message) (written out message h)
+-- ---- a sender's report of 48 bytes
+module _ (out : List ℕ) where
+  pub sender_room : 48 ≤ length out → ◌≡◌ {A = Result (Unit {0}) Refusal} (Ok tt) (passed (Sender.encode_answer out))
+  sender_room h = room 48 out h
+
+  pub sender_no_room : length out < 48 → ◌≡◌ {A = Result (Unit {0}) Refusal} (Err OutputBuffer) (passed (Sender.encode_answer out))
+  sender_no_room h = no_room 48 out h
+
+  pub sender_written : (r : SenderReport) (block : List ℕ) → block ≡ Sender.encoded r → 48 ≤ length out → block ++ drop 48 out ≡ Sender.encoded_into out r
+  unfolding Sender.encoded le_bytes
+  sender_written r block e h = rw e (written out (Sender.encoded r) h)
+
+  pub sender_unwritten : (r : SenderReport) → length out < 48 → out ≡ Sender.encoded_into out r
+  unfolding Sender.encoded le_bytes
+  sender_unwritten r h = untouched out (Sender.encoded r) h
+
+-- ---- a receiver's report of 68 bytes
+module _ (out : List ℕ) where
+  pub receiver_room : 68 ≤ length out → ◌≡◌ {A = Result (Unit {0}) Refusal} (Ok tt) (passed (Receiver.encode_answer out))
+  receiver_room h = room 68 out h
+
+  pub receiver_no_room : length out < 68 → ◌≡◌ {A = Result (Unit {0}) Refusal} (Err OutputBuffer) (passed (Receiver.encode_answer out))
+  receiver_no_room h = no_room 68 out h
+
+  pub receiver_written : (r : ReceiverReport) (block : List ℕ) → block ≡ Receiver.encoded r → 68 ≤ length out → block ++ drop 68 out ≡ Receiver.encoded_into out r
+  unfolding Receiver.encoded le_bytes
+  receiver_written r block e h = rw e (written out (Receiver.encoded r) h)
+
+  pub receiver_unwritten : (r : ReceiverReport) → length out < 68 → out ≡ Receiver.encoded_into out r
+  unfolding Receiver.encoded le_bytes
+  receiver_unwritten r h = untouched out (Receiver.encoded r) h
 
 -- ---- the payload of a message in a buffer: its own bytes, and what the buffer held past them
 pub payload_alike : (out message : List ℕ) (from : ℕ) → length message ≤ length out → AlikeOn (drop 1 message) (drop 1 (written_into out message)) from (length message - 1)

@@ -10,15 +10,13 @@ use mir.Syntax.{w32}
 use mir.Val.{to_z, of_z}
 use mir.Facts.{to_z-of_z, of_z-to_z, Fits-of_z}
 use Rattle.codec.specs.LittleEndian.{le_at, le_bytes, field_at}
-use Rattle.codec.specs.Reading.{values_of, by_length}
-use Rattle.codec.specs.declared.reader.Length.{Length}
+use Rattle.codec.specs.Reading.{Length, values_of, by_length}
 use Rattle.codec.proofs.Lengths.{answer_enough}
 use Rattle.codec.proofs.Widths.{read_bytes_lem, field_small}
 use lib.Dec.{leb}
 use Rattle.wire.specs.Payload.{AlikeOn, Bytes, room_answer}
-use Rattle.wire.specs.ReceiverReport.{encoded, encode_answer, encoded_into, report_in, decoded_by, accepted, decoded, Fits}
+use Rattle.wire.specs.ReceiverReport.{encoded, encode_answer, encoded_into, report_in, decoded_by, accepted, decoded, Fits, ReceiverReportDecoded}
 use Rattle.wire.specs.declared.receiver_report.ReceiverReport.{ReceiverReport}
-use Rattle.wire.specs.declared.receiver_report.ReceiverReportDecoded.{ReceiverReportDecoded}
 use Rattle.wire.proofs.Messages.{payload_alike, payload_length}
 use Rattle.wire.proofs.Fields.{field_alike, first_field, next_field}
 

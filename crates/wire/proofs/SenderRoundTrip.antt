@@ -5,7 +5,7 @@ use mathlib.Core.List.{List, []}
 use lib.ListN.{length, take, drop}
 use native.Mathlib.Omega.{arith}
 use Rattle.codec.specs.LittleEndian.{le_at, le_bytes, field_at}
-use Rattle.codec.specs.declared.reader.Length.{Length}
+use Rattle.codec.specs.Reading.{Length}
 use Rattle.codec.proofs.Lengths.{answer_enough}
 use Rattle.codec.proofs.Widths.{read_bytes_lem}
 use Rattle.wire.specs.Payload.{AlikeOn, Bytes}

@@ -3,4 +3,3 @@ pub mod Payload
 pub mod SenderReport
 pub mod ReceiverReport
 pub mod PathMtu
-pub mod Blocks

@@ -1,15 +1,13 @@
 -- ReceiverReport, 68 bytes (document 01, "Report bytes"): highest 8, packets 8, bytes 8, echo 4, dwell 2, max burst 2, mean burst 2, reserved 2, jitter 4,
 -- ECN 4, trend 4 signed, bursts 4, reorders 4, interval packets 4, interval bytes 4. Definitions only.
-use Rattle.std.specs.Prelude.{ℕ, ◌^◌, ◌<◌, List, [], ◌∷◌, ◌++◌, pos, drop}
+use Rattle.std.specs.Prelude.{ℕ, ◌^◌, ◌<◌, List, [], ◌∷◌, ◌++◌, pos, drop, Result, Ok}
 use Rattle.std.specs.Int.{w32}
 use Rattle.std.proofs.Common.{SFits, to_z, of_z}
 use Rattle.codec.specs.LittleEndian.{le_bytes, field_at}
-use Rattle.codec.specs.Reading.{length_answer, values_of, by_length}
-use Rattle.codec.specs.declared.reader.Length.{Length}
-use Rattle.codec.specs.declared.reader.Length.TheVariants.{Enough}
-use Rattle.wire.specs.Payload.{room_answer, written_into}
+use Rattle.codec.specs.Reading.{Length, length_answer, values_of, by_length}
+use Rattle.codec.specs.declared.reader.TooShort.{TooShort}
+use Rattle.wire.specs.Payload.{room_answer, written_into, message_taken}
 use Rattle.wire.specs.declared.receiver_report.ReceiverReport.{ReceiverReport}
-use Rattle.wire.specs.declared.receiver_report.ReceiverReportDecoded.{ReceiverReportDecoded}
 
 -- the bytes: the type, three zeros, the fields in order with two zeros before the jitter
 unfoldable pub encoded : ReceiverReport → List ℕ
@@ -77,6 +75,17 @@ no_report = record {
   interval_bytes_recv = 0;
 }
 
+-- document 01's number, the two lengths that 7 returns beside it, and what is decoded
+pub record ReceiverReportDecoded : Type 0 where
+  pub refusal : ℕ
+  pub needed : ℕ
+  pub given : ℕ
+  pub report : ReceiverReport
+
+-- the same as a result
+abbrev pub taken : ReceiverReportDecoded → Result ReceiverReport TooShort
+taken d = message_taken d.refusal d.needed d.given d.report
+
 -- document 01, question 7: the number and the lengths of a length answer, with the report where the payload is long enough, else none
 unfoldable pub decoded_by : Length → ReceiverReport → ReceiverReportDecoded
 decoded_by answer r = record {
@@ -88,7 +97,7 @@ decoded_by answer r = record {
 
 -- the report, and nothing refused
 abbrev pub accepted : ReceiverReport → ReceiverReportDecoded
-accepted r = decoded_by Enough r
+accepted r = decoded_by (Ok tt) r
 
 -- a payload of at least 67 bytes is read; anything past them is ignored
 unfoldable pub decoded : List ℕ → ReceiverReportDecoded

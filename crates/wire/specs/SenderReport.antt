@@ -1,12 +1,10 @@
 -- SenderReport, 48 bytes (document 01, "Report bytes"): start counter 8, end counter 8, start time 4, end time 4, interval bytes 4, packets 8, bytes 8. Definitions only.
-use Rattle.std.specs.Prelude.{ℕ, ◌^◌, ◌<◌, List, [], ◌∷◌, ◌++◌, drop}
+use Rattle.std.specs.Prelude.{ℕ, ◌^◌, ◌<◌, List, [], ◌∷◌, ◌++◌, drop, Result, Ok}
 use Rattle.codec.specs.LittleEndian.{le_bytes, field_at}
-use Rattle.codec.specs.Reading.{length_answer, values_of, by_length}
-use Rattle.codec.specs.declared.reader.Length.{Length}
-use Rattle.codec.specs.declared.reader.Length.TheVariants.{Enough}
-use Rattle.wire.specs.Payload.{room_answer, written_into}
+use Rattle.codec.specs.Reading.{Length, length_answer, values_of, by_length}
+use Rattle.codec.specs.declared.reader.TooShort.{TooShort}
+use Rattle.wire.specs.Payload.{room_answer, written_into, message_taken}
 use Rattle.wire.specs.declared.sender_report.SenderReport.{SenderReport}
-use Rattle.wire.specs.declared.sender_report.SenderReportDecoded.{SenderReportDecoded}
 
 -- the bytes: the type, three zeros, the fields in order
 unfoldable pub encoded : SenderReport → List ℕ
@@ -52,6 +50,17 @@ no_report = record {
   cumulative_bytes_sent = 0;
 }
 
+-- document 01's number, the two lengths that 7 returns beside it, and what is decoded
+pub record SenderReportDecoded : Type 0 where
+  pub refusal : ℕ
+  pub needed : ℕ
+  pub given : ℕ
+  pub report : SenderReport
+
+-- the same as a result
+abbrev pub taken : SenderReportDecoded → Result SenderReport TooShort
+taken d = message_taken d.refusal d.needed d.given d.report
+
 -- document 01, question 7: the number and the lengths of a length answer, with the report where the payload is long enough, else none
 unfoldable pub decoded_by : Length → SenderReport → SenderReportDecoded
 decoded_by answer r = record {
@@ -63,7 +72,7 @@ decoded_by answer r = record {
 
 -- the report, and nothing refused
 abbrev pub accepted : SenderReport → SenderReportDecoded
-accepted r = decoded_by Enough r
+accepted r = decoded_by (Ok tt) r
 
 -- a payload of at least 47 bytes is read; anything past them is ignored
 unfoldable pub decoded : List ℕ → SenderReportDecoded

@@ -10,9 +10,7 @@ ghost use Rattle.algorithms.specs.Srtt as estimator;
 ghost use Rattle.metrics.specs.State.{trends_ok, ratios_ok, tallied};
 
 use crate::MmpMetrics;
-use figures::tallies_ok;
 use floats::least;
-use refusals::option::unwrap_or_zero;
 use refusals::ranges::{MAX_DELAY_US, MAX_ETX, MAX_TREND};
 
 // A count of reports, or 139 years in ms. No running count or clock has come that far.
@@ -101,8 +99,7 @@ impl MmpMetrics {
             × (clock_ok now_ms ≡ true)
             × (counter_ok 64 self.reports_seen 1 ≡ true) }
     {
-        let prev_rr_ms = self.prev_rr_ms;
-        let prev = unwrap_or_zero(prev_rr_ms);
+        let prev = self.prev_rr_ms.unwrap_or(0);
         let smoothed = near_us(self.srtt.srtt_us);
         let variation = near_us(self.srtt.rttvar_us);
         let near = (prev < NEAR_CLOCK_OR_COUNT)
@@ -110,16 +107,6 @@ impl MmpMetrics {
             & (self.reports_seen < NEAR_CLOCK_OR_COUNT)
             & smoothed
             & variation;
-        if near {} else {
-            return false;
-        }
-        tallies_ok(
-            self.reports_seen,
-            self.stale_reports,
-            self.no_echo_reports,
-            self.rtt_samples,
-            self.rtt_zero,
-            self.rtt_arith_fail,
-        )
+        near && self.tallies_ok()
     }
 }

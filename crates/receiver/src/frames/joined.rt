@@ -12,9 +12,8 @@ ghost use Rattle.receiver.specs.Frames.{counters_ok};
 
 use crate::ReceiverState;
 use gaps::MAX_BURST_LEN;
-use refusals::option::unwrap_or_zero;
 use refusals::ranges::frame_size_ok;
-use samples::delay::OwdReference;
+use samples::delay::OwdBase;
 
 // 139 years: a clock below it is near. No running clock has come that far.
 const NEAR_CLOCK_MS: u64 = 1 << 42;
@@ -23,13 +22,10 @@ const NEAR_CLOCK_MS: u64 = 1 << 42;
 const LOW_COUNT: u64 = 1 << 63;
 
 // The clock of a reference that may be missing, in range where the reference is.
-fn reference_ms(owd_ref: OwdReference) -> u64
+fn reference_ms(owd_ref: Option<OwdBase>) -> u64
     ensures { clock_ok result ≡ reference_ok owd_ref }
 {
-    match owd_ref {
-        OwdReference::None => 0,
-        OwdReference::Some(recv_ms, _timestamp) => recv_ms,
-    }
+    owd_ref.map_or(0, |base| base.recv_ms)
 }
 
 impl ReceiverState {
@@ -42,19 +38,11 @@ impl ReceiverState {
             × (reference_ok self.owd_ref ≡ true)
             × (clock_ok now_ms ≡ true) }
     {
-        let last_recv_ms = self.last_recv_ms;
-        let recv = unwrap_or_zero(last_recv_ms);
-        let last_report_ms = self.last_report_ms;
-        let report = unwrap_or_zero(last_report_ms);
-        let deadline_ms = self.rekey_jitter_grace_until_ms;
-        let deadline = unwrap_or_zero(deadline_ms);
-        let owd_ref = self.owd_ref;
-        let reference = reference_ms(owd_ref);
-        (recv < NEAR_CLOCK_MS)
-            & (report < NEAR_CLOCK_MS)
+        (self.last_recv_ms.unwrap_or(0) < NEAR_CLOCK_MS)
+            & (self.last_report_ms.unwrap_or(0) < NEAR_CLOCK_MS)
             & (self.report_interval_ms < NEAR_CLOCK_MS)
-            & (deadline < NEAR_CLOCK_MS)
-            & (reference < NEAR_CLOCK_MS)
+            & (self.rekey_jitter_grace_until_ms.unwrap_or(0) < NEAR_CLOCK_MS)
+            & (reference_ms(self.owd_ref) < NEAR_CLOCK_MS)
             & (now_ms < NEAR_CLOCK_MS)
     }
 
@@ -80,7 +68,7 @@ impl ReceiverState {
             × (counter_ok 64 self.cumulative_bytes_recv bytes ≡ true)
             × (counter_ok 32 self.gap_tracker.burst_count 1 ≡ true) }
     {
-        let most = MAX_BURST_LEN * self.gap_tracker.burst_count as u64;
+        let most = MAX_BURST_LEN * u64::from(self.gap_tracker.burst_count);
         !self.gap_tracker.in_burst
             & (self.gap_tracker.current_burst_len == 0)
             & (self.gap_tracker.total_burst_len <= most)
@@ -102,10 +90,9 @@ impl ReceiverState {
             ∷ []
             ) ≡ 0 }
     {
-        let clocks = self.clocks_near(now_ms);
-        let jitter = self.jitter.keeps_rule();
-        let window = self.window_lent(times, delays);
-        let counts = self.counts_low(bytes);
-        window & counts & jitter & clocks
+        self.window_lent(times, delays)
+            & self.counts_low(bytes)
+            & self.jitter.keeps_rule()
+            & self.clocks_near(now_ms)
     }
 }

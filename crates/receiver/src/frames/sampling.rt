@@ -2,64 +2,24 @@
 
 ghost use Rattle.std.specs.Prelude.{◌≡◌, set};
 ghost use Rattle.samples.specs.Delay.{age_of, delay_of};
-ghost use Rattle.receiver.specs.Frames.{with_timing, timing_sampled, echo_if_sampled, pushes, with_sample, slot_for, times_after, delays_after};
+ghost use Rattle.receiver.specs.Frames.{timing_sampled, echo_if_sampled, pushes, with_sample, slot_for, times_after, delays_after};
 
 use crate::ReceiverState;
-use algorithms::jitter::JitterEstimator;
-use algorithms::owd::OwdTrendDetector;
-use refusals::option::OptionU64;
-use samples::delay::{OwdReference, base_of_unchecked, sample_owd_unchecked};
+use samples::delay::{base_of_unchecked, sample_owd_unchecked};
 use samples::transit::{in_grace, jitter_after_unchecked};
 
 impl ReceiverState {
-    fn with_timing(
-        self,
-        jitter: JitterEstimator,
-        owd_trend: OwdTrendDetector,
-        owd_ref: OwdReference,
-        rekey_jitter_grace_until_ms: OptionU64,
-        last_sender_timestamp: u32,
-        now_ms: u64,
-    ) -> ReceiverState
-        ensures { result ≡ with_timing self jitter owd_trend owd_ref rekey_jitter_grace_until_ms last_sender_timestamp now_ms }
-    {
-        let gap_tracker = self.gap_tracker;
-        let last_recv_ms = OptionU64::Some(now_ms);
-        let last_report_ms = self.last_report_ms;
-        ReceiverState {
-            cumulative_packets_recv: self.cumulative_packets_recv,
-            cumulative_bytes_recv: self.cumulative_bytes_recv,
-            cumulative_reorder_count: self.cumulative_reorder_count,
-            highest_counter: self.highest_counter,
-            interval_packets_recv: self.interval_packets_recv,
-            interval_bytes_recv: self.interval_bytes_recv,
-            jitter,
-            owd_trend,
-            owd_ref,
-            gap_tracker,
-            ecn_ce_count: self.ecn_ce_count,
-            last_sender_timestamp,
-            last_recv_ms,
-            rekey_jitter_grace_until_ms,
-            last_report_ms,
-            report_interval_ms: self.report_interval_ms,
-            interval_has_data: self.interval_has_data,
-            srtt_sample_count: self.srtt_sample_count,
-            interval_max_lateness: self.interval_max_lateness,
-        }
-    }
-
     // A frame that moves no figure: in grace it still moves the echo, and not sampled it moves nothing.
     #[tactic(auto, unfolding(crate::specs::Frames::echo_if_sampled))]
     fn echo_if_sampled(self, timestamp: u32, now_ms: u64, sampled: bool) -> ReceiverState
         ensures { result ≡ echo_if_sampled self timestamp now_ms sampled }
     {
         if sampled {
-            let jitter = self.jitter;
-            let owd_trend = self.owd_trend;
-            let owd_ref = self.owd_ref;
-            let deadline_ms = self.rekey_jitter_grace_until_ms;
-            self.with_timing(jitter, owd_trend, owd_ref, deadline_ms, timestamp, now_ms)
+            ReceiverState {
+                last_sender_timestamp: timestamp,
+                last_recv_ms: Some(now_ms),
+                ..self
+            }
         } else {
             self
         }
@@ -78,22 +38,28 @@ impl ReceiverState {
         ensures times { times.new ≡ set times.old (slot_for self now_ms) (age_of self.owd_ref timestamp now_ms) }
         ensures delays { delays.new ≡ set delays.old (slot_for self now_ms) (delay_of self.owd_ref timestamp now_ms) }
     {
-        let reference = self.owd_ref;
-        let base = base_of_unchecked(reference, now_ms, timestamp);
-        let owd_ref = OwdReference::Some(base.recv_ms, base.sender_timestamp);
-        let last_recv_ms = self.last_recv_ms;
-        let window = self.owd_trend;
-        let last = self.jitter;
-        let jitter = jitter_after_unchecked(
-            last,
-            last_recv_ms,
-            self.last_sender_timestamp,
-            timestamp,
-            now_ms,
-        );
-        let none = OptionU64::None;
-        let owd_trend = sample_owd_unchecked(window, reference, times, delays, timestamp, now_ms);
-        self.with_timing(jitter, owd_trend, owd_ref, none, timestamp, now_ms)
+        ReceiverState {
+            jitter: jitter_after_unchecked(
+                self.jitter,
+                self.last_recv_ms,
+                self.last_sender_timestamp,
+                timestamp,
+                now_ms,
+            ),
+            owd_trend: sample_owd_unchecked(
+                self.owd_trend,
+                self.owd_ref,
+                times,
+                delays,
+                timestamp,
+                now_ms,
+            ),
+            owd_ref: Some(base_of_unchecked(self.owd_ref, now_ms, timestamp)),
+            rekey_jitter_grace_until_ms: None,
+            last_sender_timestamp: timestamp,
+            last_recv_ms: Some(now_ms),
+            ..self
+        }
     }
 
     // Whether the frame pushes a sample: it is sampled, and out of grace.
@@ -101,8 +67,7 @@ impl ReceiverState {
     fn pushes(self, now_ms: u64, sampled: bool) -> bool
         ensures { result ≡ pushes self now_ms sampled }
     {
-        let deadline_ms = self.rekey_jitter_grace_until_ms;
-        sampled & !in_grace(deadline_ms, now_ms)
+        sampled & !in_grace(self.rekey_jitter_grace_until_ms, now_ms)
     }
 
     #[tactic(auto, unfolding(crate::specs::Frames::with_sample, crate::specs::Frames::delays_after, crate::specs::Frames::times_after))]

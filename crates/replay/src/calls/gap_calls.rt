@@ -1,101 +1,105 @@
 // Calls 451 to 459 and 471 to 473: `GapTracker`.
-use crate::reply::{Reply, one, refusal};
-use crate::tables::{flag, flag_of, from, optional_of, u16_of, u32_of, u64_of, wide_u16, wide_u32};
-use gaps::checked::{GapObserved, GapStats, GapUpdate};
-use gaps::{Arrival, GapTracker, IntervalStats, Observed, lost_before, mean_burst};
+use crate::arguments::{Argument, Arguments};
+use crate::reply::{Reply, Reported};
+use gaps::checked::BurstStats;
+use gaps::{Arrival, GapTracker, lost_before, mean_burst};
 
-pub fn answer(given: &[u64]) -> Reply {
-    let t = tracker_of(from(given, 1));
-    match u64_of(given, 0) {
-        451 => and_tracker(Reply::new(), GapTracker::new()),
-        452 => of_observed(t.observe_unchecked(u64_of(given, 8))),
-        453 => of_stats(t.take_interval_stats_unchecked()),
-        454 => and_tracker(Reply::new(), t.finish_burst_unchecked()),
-        455 => one(flag(t.keeps_rule())),
-        456 => one(flag(t.begins_burst(u64_of(given, 8)))),
-        457 => one(flag(t.bursts_ok(u64_of(given, 8)))),
-        459 => one(lost_before(arrival_of(given))),
-        471 => of_gap_observed(t.observe(u64_of(given, 8))),
-        472 => of_gap_stats(t.take_interval_stats()),
-        473 => of_gap_update(t.finish_burst()),
-        _ => one(wide_u16(mean_burst(u64_of(given, 1), u32_of(given, 2)))),
+pub fn answer(call: u64, args: &mut Arguments<'_>, reply: &mut Reply) -> Option<()> {
+    match call {
+        451 => reply.put(GapTracker::new()),
+        452 => {
+            let seen = GapTracker::observe_unchecked(args.take()?, args.take()?);
+            reply.put(seen.arrival);
+            reply.put(seen.tracker);
+        }
+        453 => {
+            let stats = GapTracker::take_interval_stats_unchecked(args.take()?);
+            reply.put(stats.count);
+            reply.put(stats.max);
+            reply.put(stats.mean);
+            reply.put(stats.tracker);
+        }
+        454 => reply.put(GapTracker::finish_burst_unchecked(args.take()?)),
+        455 => reply.put(GapTracker::keeps_rule(args.take()?)),
+        456 => reply.put(GapTracker::begins_burst(args.take()?, args.take()?)),
+        457 => reply.put(GapTracker::bursts_ok(args.take()?, args.take()?)),
+        458 => reply.put(mean_burst(args.take()?, args.take()?)),
+        459 => reply.put(lost_before(args.take()?)),
+        471 => reply.put(GapTracker::observe(args.take()?, args.take()?)),
+        472 => reply.put(GapTracker::take_interval_stats(args.take()?)),
+        _ => reply.put(GapTracker::finish_burst(args.take()?)),
+    }
+    Some(())
+}
+
+impl Argument for GapTracker {
+    fn read(args: &mut Arguments<'_>) -> Option<GapTracker> {
+        Some(GapTracker {
+            expected_next: args.take()?,
+            in_burst: args.take()?,
+            current_burst_len: args.take()?,
+            burst_count: args.take()?,
+            max_burst_len: args.take()?,
+            total_burst_len: args.take()?,
+        })
     }
 }
 
-// The tracker that these numbers begin with.
-pub fn tracker_of(given: &[u64]) -> GapTracker {
-    let expected_next = optional_of(given);
-    GapTracker {
-        expected_next,
-        in_burst: flag_of(given, 2),
-        current_burst_len: u16_of(given, 3),
-        burst_count: u32_of(given, 4),
-        max_burst_len: u16_of(given, 5),
-        total_burst_len: u64_of(given, 6),
+impl Reported for GapTracker {
+    fn width() -> usize {
+        7
+    }
+
+    fn report(self, reply: &mut Reply) {
+        reply.put(self.expected_next);
+        reply.put(self.in_burst);
+        reply.put(self.current_burst_len);
+        reply.put(self.burst_count);
+        reply.put(self.max_burst_len);
+        reply.put(self.total_burst_len);
     }
 }
 
-// The tracker after what a call answers.
-pub fn and_tracker(reply: Reply, t: GapTracker) -> Reply {
-    let expected_next = t.expected_next;
-    reply
-        .and_optional(expected_next)
-        .and_bool(t.in_burst)
-        .and_u16(t.current_burst_len)
-        .and_u32(t.burst_count)
-        .and_u16(t.max_burst_len)
-        .and(t.total_burst_len)
-}
-
-// The case with this number, and its frames: those of a gap, or how far behind.
-fn arrival_of(given: &[u64]) -> Arrival {
-    match u64_of(given, 1) {
-        1 => Arrival::InSequence,
-        2 => Arrival::Gap(u64_of(given, 2)),
-        3 => Arrival::Behind(u64_of(given, 2)),
-        _ => Arrival::First,
+// The case, and its frames: those of a gap, or how far behind.
+impl Argument for Arrival {
+    fn read(args: &mut Arguments<'_>) -> Option<Arrival> {
+        match (args.number()?, args.number()?) {
+            (0, 0) => Some(Arrival::First),
+            (1, 0) => Some(Arrival::InSequence),
+            (2, missing) => Some(Arrival::Gap(missing)),
+            (3, late) => Some(Arrival::Behind(late)),
+            _ => None,
+        }
     }
 }
 
 // The commit's number, then the case and its frames.
-fn and_arrival(reply: Reply, arrival: Arrival) -> Reply {
-    let lost = reply.and(lost_before(arrival));
-    match arrival {
-        Arrival::First => lost.and(0).and(0),
-        Arrival::InSequence => lost.and(1).and(0),
-        Arrival::Gap(missing) => lost.and(2).and(missing),
-        Arrival::Behind(late) => lost.and(3).and(late),
+impl Reported for Arrival {
+    fn width() -> usize {
+        3
+    }
+
+    fn report(self, reply: &mut Reply) {
+        let (case, frames) = match self {
+            Arrival::First => (0, 0),
+            Arrival::InSequence => (1, 0),
+            Arrival::Gap(missing) => (2, missing),
+            Arrival::Behind(late) => (3, late),
+        };
+        reply.number(lost_before(self));
+        reply.number(case);
+        reply.number(frames);
     }
 }
 
-fn of_observed(o: Observed) -> Reply {
-    let arrival = o.arrival;
-    let t = o.tracker;
-    and_tracker(and_arrival(Reply::new(), arrival), t)
-}
+impl Reported for BurstStats {
+    fn width() -> usize {
+        3
+    }
 
-fn of_stats(s: IntervalStats) -> Reply {
-    let t = s.tracker;
-    let head = one(wide_u32(s.count)).and_u16(s.max).and_u16(s.mean);
-    and_tracker(head, t)
-}
-
-fn of_gap_observed(o: GapObserved) -> Reply {
-    let arrival = o.arrival;
-    let t = o.tracker;
-    and_tracker(and_arrival(refusal(o.refusal), arrival), t)
-}
-
-fn of_gap_stats(s: GapStats) -> Reply {
-    let t = s.tracker;
-    let head = refusal(s.refusal)
-        .and_u32(s.count)
-        .and_u16(s.max)
-        .and_u16(s.mean);
-    and_tracker(head, t)
-}
-
-fn of_gap_update(u: GapUpdate) -> Reply {
-    let t = u.tracker;
-    and_tracker(refusal(u.refusal), t)
+    fn report(self, reply: &mut Reply) {
+        reply.put(self.count);
+        reply.put(self.max);
+        reply.put(self.mean);
+    }
 }

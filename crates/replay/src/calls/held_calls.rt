@@ -1,42 +1,50 @@
 // Calls 161 to 175: the reader that holds its payload, and what it is made of.
-use crate::calls::reader_calls::{
-    of_array_2, of_array_4, of_array_8, of_u8, of_u16, of_u32, of_u64,
-};
-use crate::calls::wire_calls::{of_receiver, of_sender};
-use crate::reply::{Reply, one};
-use crate::tables::{u64_of, usize_of, wide};
+use crate::arguments::Arguments;
+use crate::calls::Rooms;
+use crate::reply::Reply;
 use codec::reader::needed_for;
-use reader::{reads, reports};
+use reader::{Reader, reads, reports};
 use wire::{receiver_report, sender_report};
 
-pub fn answer(given: &[u64], payload: &[u8]) -> Reply {
-    match u64_of(given, 0) {
-        161..=167 => read(given, payload),
-        168..=171 => decoded(given, payload),
-        174 => one(wide(needed_for(usize_of(given, 1), usize_of(given, 2)))),
-        _ => one(wide(reads::remaining(payload))),
+pub fn answer(
+    call: u64,
+    args: &mut Arguments<'_>,
+    rooms: &mut Rooms,
+    reply: &mut Reply,
+) -> Option<()> {
+    match call {
+        161..=167 => {
+            let at = args.take()?;
+            let buf = args.list(&mut rooms.buffer)?;
+            read(call, Reader { buf, at }, reply);
+        }
+        168 => reply.put(reports::decode_sender_report(args.list(&mut rooms.buffer)?)),
+        169 => reply.put(reports::decode_receiver_report(args.list(&mut rooms.buffer)?)),
+        170 => {
+            let pos = args.take()?;
+            reply.put(sender_report::decode_at(args.list(&mut rooms.buffer)?, pos));
+        }
+        171 => {
+            let pos = args.take()?;
+            reply.put(receiver_report::decode_at(args.list(&mut rooms.buffer)?, pos));
+        }
+        174 => reply.put(needed_for(args.take()?, args.take()?)),
+        175 => reply.put(reads::remaining(args.list(&mut rooms.buffer)?)),
+        _ => return None,
     }
+    Some(())
 }
 
-fn read(given: &[u64], payload: &[u8]) -> Reply {
-    let pos = usize_of(given, 1);
-    match u64_of(given, 0) {
-        161 => of_u8(reads::read_u8_at(payload, pos)),
-        162 => of_u16(reads::read_u16_le_at(payload, pos)),
-        163 => of_u32(reads::read_u32_le_at(payload, pos)),
-        164 => of_u64(reads::read_u64_le_at(payload, pos)),
-        165 => of_array_2(reads::read_array_2_at(payload, pos)),
-        166 => of_array_4(reads::read_array_4_at(payload, pos)),
-        _ => of_array_8(reads::read_array_8_at(payload, pos)),
+fn read(call: u64, from: Reader<'_>, reply: &mut Reply) {
+    let mut reader = from;
+    match call {
+        161 => reply.put(reader.read_u8()),
+        162 => reply.put(reader.read_u16_le()),
+        163 => reply.put(reader.read_u32_le()),
+        164 => reply.put(reader.read_u64_le()),
+        165 => reply.put(reader.read_array::<2>()),
+        166 => reply.put(reader.read_array::<4>()),
+        _ => reply.put(reader.read_array::<8>()),
     }
-}
-
-fn decoded(given: &[u64], payload: &[u8]) -> Reply {
-    let pos = usize_of(given, 1);
-    match u64_of(given, 0) {
-        168 => of_sender(reports::decode_sender_report(payload)),
-        169 => of_receiver(reports::decode_receiver_report(payload)),
-        170 => of_sender(sender_report::decode_at(payload, pos)),
-        _ => of_receiver(receiver_report::decode_at(payload, pos)),
-    }
+    reply.put(reader.at);
 }

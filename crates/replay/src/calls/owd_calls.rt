@@ -1,56 +1,67 @@
 // Calls 331 to 338: `OwdTrendDetector`.
-use crate::reply::{Reply, one, refusal};
-use crate::tables::{flag, from, i64_of, u32_of, u64_of, usize_of};
-use algorithms::owd::{OwdTrendDetector, OwdUpdate};
+use crate::arguments::{Argument, Arguments};
+use crate::calls::Rooms;
+use crate::reply::{Reply, Reported};
+use algorithms::owd::OwdTrendDetector;
 
-// The calls that take no windows.
-pub fn answer(given: &[u64]) -> Reply {
-    let s = detector_of(from(given, 1));
-    match u64_of(given, 0) {
-        331 => and_detector(Reply::new(), OwdTrendDetector::new(usize_of(given, 1))),
-        332 => of_update(s.clear()),
-        335 => one(flag(s.keeps_rule())),
-        337 => and_detector(Reply::new(), s.clear_unchecked()),
-        _ => one(flag(s.windows_ok(usize_of(given, 4), usize_of(given, 5)))),
+pub fn answer(
+    call: u64,
+    args: &mut Arguments<'_>,
+    rooms: &mut Rooms,
+    reply: &mut Reply,
+) -> Option<()> {
+    match call {
+        331 => reply.put(OwdTrendDetector::new(args.take()?)),
+        332 => reply.put(OwdTrendDetector::clear(args.take()?)),
+        333 => {
+            let s: OwdTrendDetector = args.take()?;
+            let (at_ms, owd_us) = (args.take()?, args.take()?);
+            let times = args.list(&mut rooms.times)?;
+            let delays = args.list(&mut rooms.delays)?;
+            reply.put(s.push(times, delays, at_ms, owd_us));
+            reply.list(times);
+            reply.list(delays);
+        }
+        334 => {
+            let s: OwdTrendDetector = args.take()?;
+            let times = args.list(&mut rooms.times)?;
+            let delays = args.list(&mut rooms.delays)?;
+            reply.put(s.trend_us_per_sec(times, delays));
+        }
+        335 => reply.put(OwdTrendDetector::keeps_rule(args.take()?)),
+        336 => reply.put(OwdTrendDetector::windows_ok(args.take()?, args.take()?, args.take()?)),
+        337 => reply.put(OwdTrendDetector::clear_unchecked(args.take()?)),
+        _ => {
+            let s: OwdTrendDetector = args.take()?;
+            let (at_ms, owd_us) = (args.take()?, args.take()?);
+            let times = args.list(&mut rooms.times)?;
+            let delays = args.list(&mut rooms.delays)?;
+            reply.put(s.push_unchecked(times, delays, at_ms, owd_us));
+            reply.list(times);
+            reply.list(delays);
+        }
+    }
+    Some(())
+}
+
+impl Argument for OwdTrendDetector {
+    fn read(args: &mut Arguments<'_>) -> Option<OwdTrendDetector> {
+        Some(OwdTrendDetector {
+            capacity: args.take()?,
+            count: args.take()?,
+            first: args.take()?,
+        })
     }
 }
 
-// The detector that these numbers begin with.
-pub fn detector_of(given: &[u64]) -> OwdTrendDetector {
-    OwdTrendDetector {
-        capacity: usize_of(given, 0),
-        count: usize_of(given, 1),
-        first: usize_of(given, 2),
+impl Reported for OwdTrendDetector {
+    fn width() -> usize {
+        3
     }
-}
 
-// The detector after what a call answers.
-pub fn and_detector(reply: Reply, s: OwdTrendDetector) -> Reply {
-    reply
-        .and_size(s.capacity)
-        .and_size(s.count)
-        .and_size(s.first)
-}
-
-fn of_update(u: OwdUpdate) -> Reply {
-    let s = u.state;
-    and_detector(refusal(u.refusal), s)
-}
-
-// The calls on windows.
-
-pub fn pushed(given: &[u64], times: &mut [u32], delays: &mut [i64]) -> Reply {
-    let s = detector_of(from(given, 1));
-    of_update(s.push(times, delays, u32_of(given, 4), i64_of(given, 5)))
-}
-
-pub fn pushed_unchecked(given: &[u64], times: &mut [u32], delays: &mut [i64]) -> Reply {
-    let s = detector_of(from(given, 1));
-    let after = s.push_unchecked(times, delays, u32_of(given, 4), i64_of(given, 5));
-    and_detector(Reply::new(), after)
-}
-
-pub fn trend(given: &[u64], times: &[u32], delays: &[i64]) -> Reply {
-    let a = detector_of(from(given, 1)).trend_us_per_sec(times, delays);
-    refusal(a.refusal).and_i32(a.value)
+    fn report(self, reply: &mut Reply) {
+        reply.put(self.capacity);
+        reply.put(self.count);
+        reply.put(self.first);
+    }
 }

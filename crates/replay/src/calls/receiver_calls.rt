@@ -1,169 +1,124 @@
 // Calls 501 to 519: `ReceiverState`.
-use crate::calls::gap_calls::{and_tracker, tracker_of};
-use crate::calls::owd_calls::{and_detector, detector_of};
-use crate::calls::sample_calls::{and_reference, reference_of};
-use crate::calls::wire_calls::and_receiver_report;
-use crate::reply::{Reply, of_bool, of_optional_u64, of_u32, of_u64, one, refusal};
-use crate::tables::{flag, flag_of, from, i64_of, optional_of, u32_of, u64_of, usize_of};
-use algorithms::jitter::JitterEstimator;
-use receiver::reports::ReceiverReportBuilt;
-use receiver::{ReceiverNew, ReceiverState, ReceiverUpdate};
+use crate::arguments::{Argument, Arguments};
+use crate::calls::Rooms;
+use crate::reply::{Reply, Reported};
+use receiver::ReceiverState;
 
-// The calls that take no windows.
-pub fn answer(given: &[u64]) -> Reply {
-    match u64_of(given, 0) {
-        501 => and_state(Reply::new(), ReceiverState::new(usize_of(given, 1))),
-        502 => and_state(Reply::new(), ReceiverState::default()),
-        503 => of_new(ReceiverState::new_with_cold_start(usize_of(given, 1), u64_of(given, 2))),
-        506 | 509 | 510 => of_call(given, state_of(given)),
-        _ => of_value(given, state_of(given)),
-    }
-}
-
-// The calls that answer a value alone.
-fn of_value(given: &[u64], s: ReceiverState) -> Reply {
-    match u64_of(given, 0) {
-        508 => of_bool(s.should_send_report(u64_of(given, 33))),
-        511 => of_u64(s.cumulative_packets_recv()),
-        512 => of_u64(s.cumulative_bytes_recv()),
-        513 => of_u64(s.highest_counter()),
-        514 => of_u32(s.jitter_us()),
-        515 => of_u64(s.report_interval_ms()),
-        516 => of_optional_u64(s.last_recv_ms()),
-        517 => of_u32(s.ecn_ce_count()),
-        519 => of_u64(s.interval_max_lateness()),
-        _ => one(flag(s.keeps_rule())),
-    }
-}
-
-// The calls that answer the state after.
-fn of_call(given: &[u64], s: ReceiverState) -> Reply {
-    match u64_of(given, 0) {
-        506 => of_update(s.reset_for_rekey(u64_of(given, 33))),
-        509 => of_update(s.update_report_interval_from_srtt(i64_of(given, 33))),
-        _ => of_update(s.update_report_interval_with_bounds(
-            i64_of(given, 33),
-            u64_of(given, 34),
-            u64_of(given, 35),
+pub fn answer(
+    call: u64,
+    args: &mut Arguments<'_>,
+    rooms: &mut Rooms,
+    reply: &mut Reply,
+) -> Option<()> {
+    match call {
+        501 => reply.put(ReceiverState::new(args.take()?)),
+        502 => reply.put(ReceiverState::default()),
+        503 => reply.put(ReceiverState::new_with_cold_start(args.take()?, args.take()?)),
+        504 | 505 => record(call, args, rooms, reply)?,
+        506 => reply.put(ReceiverState::reset_for_rekey(args.take()?, args.take()?)),
+        507 => {
+            let s: ReceiverState = args.take()?;
+            let now_ms = args.take()?;
+            let times = args.list(&mut rooms.times)?;
+            let delays = args.list(&mut rooms.delays)?;
+            reply.put(s.build_report(times, delays, now_ms));
+        }
+        508 => reply.put(ReceiverState::should_send_report(args.take()?, args.take()?)),
+        509 => reply.put(ReceiverState::update_report_interval_from_srtt(
+            args.take()?,
+            args.take()?,
         )),
+        510 => reply.put(ReceiverState::update_report_interval_with_bounds(
+            args.take()?,
+            args.take()?,
+            args.take()?,
+            args.take()?,
+        )),
+        511 => reply.put(ReceiverState::cumulative_packets_recv(args.take()?)),
+        512 => reply.put(ReceiverState::cumulative_bytes_recv(args.take()?)),
+        513 => reply.put(ReceiverState::highest_counter(args.take()?)),
+        514 => reply.put(ReceiverState::jitter_us(args.take()?)),
+        515 => reply.put(ReceiverState::report_interval_ms(args.take()?)),
+        516 => reply.put(ReceiverState::last_recv_ms(args.take()?)),
+        517 => reply.put(ReceiverState::ecn_ce_count(args.take()?)),
+        518 => reply.put(ReceiverState::keeps_rule(args.take()?)),
+        _ => reply.put(ReceiverState::interval_max_lateness(args.take()?)),
     }
+    Some(())
 }
 
-fn state_of(given: &[u64]) -> ReceiverState {
-    let jitter = JitterEstimator {
-        jitter_q4: i64_of(given, 7),
+// A frame.
+fn record(call: u64, args: &mut Arguments<'_>, rooms: &mut Rooms, reply: &mut Reply) -> Option<()> {
+    let s: ReceiverState = args.take()?;
+    let (counter, sent_ms, bytes) = (args.take()?, args.take()?, args.take()?);
+    let (ce_flag, now_ms) = (args.take()?, args.take()?);
+    let sampled = match call {
+        504 => Some(args.take()?),
+        _ => None,
     };
-    let owd_trend = detector_of(from(given, 8));
-    let owd_ref = reference_of(from(given, 11));
-    let gap_tracker = tracker_of(from(given, 14));
-    let last_recv_ms = optional_of(from(given, 23));
-    let rekey_jitter_grace_until_ms = optional_of(from(given, 25));
-    let last_report_ms = optional_of(from(given, 27));
-    ReceiverState {
-        cumulative_packets_recv: u64_of(given, 1),
-        cumulative_bytes_recv: u64_of(given, 2),
-        cumulative_reorder_count: u64_of(given, 3),
-        highest_counter: u64_of(given, 4),
-        interval_packets_recv: u32_of(given, 5),
-        interval_bytes_recv: u32_of(given, 6),
-        jitter,
-        owd_trend,
-        owd_ref,
-        gap_tracker,
-        ecn_ce_count: u32_of(given, 21),
-        last_sender_timestamp: u32_of(given, 22),
-        last_recv_ms,
-        rekey_jitter_grace_until_ms,
-        last_report_ms,
-        report_interval_ms: u64_of(given, 29),
-        interval_has_data: flag_of(given, 30),
-        srtt_sample_count: u32_of(given, 31),
-        interval_max_lateness: u64_of(given, 32),
+    let times = args.list(&mut rooms.times)?;
+    let delays = args.list(&mut rooms.delays)?;
+    reply.put(match sampled {
+        Some(sampled) => s.record_frame(
+            times, delays, counter, sent_ms, bytes, ce_flag, now_ms, sampled,
+        ),
+        None => s.record_recv(times, delays, counter, sent_ms, bytes, ce_flag, now_ms),
+    });
+    reply.list(times);
+    reply.list(delays);
+    Some(())
+}
+
+impl Argument for ReceiverState {
+    fn read(args: &mut Arguments<'_>) -> Option<ReceiverState> {
+        Some(ReceiverState {
+            cumulative_packets_recv: args.take()?,
+            cumulative_bytes_recv: args.take()?,
+            cumulative_reorder_count: args.take()?,
+            highest_counter: args.take()?,
+            interval_packets_recv: args.take()?,
+            interval_bytes_recv: args.take()?,
+            jitter: args.take()?,
+            owd_trend: args.take()?,
+            owd_ref: args.take()?,
+            gap_tracker: args.take()?,
+            ecn_ce_count: args.take()?,
+            last_sender_timestamp: args.take()?,
+            last_recv_ms: args.take()?,
+            rekey_jitter_grace_until_ms: args.take()?,
+            last_report_ms: args.take()?,
+            report_interval_ms: args.take()?,
+            interval_has_data: args.take()?,
+            srtt_sample_count: args.take()?,
+            interval_max_lateness: args.take()?,
+        })
     }
 }
 
-// The state after what a call answers.
-fn and_state(reply: Reply, s: ReceiverState) -> Reply {
-    let jitter = s.jitter;
-    let owd_trend = s.owd_trend;
-    let owd_ref = s.owd_ref;
-    let gap_tracker = s.gap_tracker;
-    let counted = reply
-        .and(s.cumulative_packets_recv)
-        .and(s.cumulative_bytes_recv)
-        .and(s.cumulative_reorder_count)
-        .and(s.highest_counter)
-        .and_u32(s.interval_packets_recv)
-        .and_u32(s.interval_bytes_recv)
-        .and_i64(jitter.jitter_q4);
-    let measured = and_reference(and_detector(counted, owd_trend), owd_ref);
-    and_timing(and_tracker(measured, gap_tracker), s)
-}
+impl Reported for ReceiverState {
+    fn width() -> usize {
+        32
+    }
 
-// The state from the marks on.
-fn and_timing(reply: Reply, s: ReceiverState) -> Reply {
-    let last_recv_ms = s.last_recv_ms;
-    let rekey_jitter_grace_until_ms = s.rekey_jitter_grace_until_ms;
-    let last_report_ms = s.last_report_ms;
-    reply
-        .and_u32(s.ecn_ce_count)
-        .and_u32(s.last_sender_timestamp)
-        .and_optional(last_recv_ms)
-        .and_optional(rekey_jitter_grace_until_ms)
-        .and_optional(last_report_ms)
-        .and(s.report_interval_ms)
-        .and_bool(s.interval_has_data)
-        .and_u32(s.srtt_sample_count)
-        .and(s.interval_max_lateness)
-}
-
-fn of_new(n: ReceiverNew) -> Reply {
-    let s = n.state;
-    and_state(refusal(n.refusal), s)
-}
-
-fn of_update(u: ReceiverUpdate) -> Reply {
-    let s = u.state;
-    and_state(refusal(u.refusal), s)
-}
-
-fn of_built(b: ReceiverReportBuilt) -> Reply {
-    let report = b.report;
-    let s = b.state;
-    let head = refusal(b.refusal).and_bool(b.some);
-    and_state(and_receiver_report(head, report), s)
-}
-
-// The calls on windows.
-
-pub fn record_frame(given: &[u64], times: &mut [u32], delays: &mut [i64]) -> Reply {
-    let s = state_of(given);
-    of_update(s.record_frame(
-        times,
-        delays,
-        u64_of(given, 33),
-        u32_of(given, 34),
-        usize_of(given, 35),
-        flag_of(given, 36),
-        u64_of(given, 37),
-        flag_of(given, 38),
-    ))
-}
-
-pub fn record_recv(given: &[u64], times: &mut [u32], delays: &mut [i64]) -> Reply {
-    let s = state_of(given);
-    of_update(s.record_recv(
-        times,
-        delays,
-        u64_of(given, 33),
-        u32_of(given, 34),
-        usize_of(given, 35),
-        flag_of(given, 36),
-        u64_of(given, 37),
-    ))
-}
-
-pub fn build_report(given: &[u64], times: &[u32], delays: &[i64]) -> Reply {
-    let s = state_of(given);
-    of_built(s.build_report(times, delays, u64_of(given, 33)))
+    fn report(self, reply: &mut Reply) {
+        reply.put(self.cumulative_packets_recv);
+        reply.put(self.cumulative_bytes_recv);
+        reply.put(self.cumulative_reorder_count);
+        reply.put(self.highest_counter);
+        reply.put(self.interval_packets_recv);
+        reply.put(self.interval_bytes_recv);
+        reply.put(self.jitter);
+        reply.put(self.owd_trend);
+        reply.put(self.owd_ref);
+        reply.put(self.gap_tracker);
+        reply.put(self.ecn_ce_count);
+        reply.put(self.last_sender_timestamp);
+        reply.put(self.last_recv_ms);
+        reply.put(self.rekey_jitter_grace_until_ms);
+        reply.put(self.last_report_ms);
+        reply.put(self.report_interval_ms);
+        reply.put(self.interval_has_data);
+        reply.put(self.srtt_sample_count);
+        reply.put(self.interval_max_lateness);
+    }
 }

@@ -1,47 +1,57 @@
 // Calls 121 to 129: `Writer`.
-use crate::calls::reader_calls::place_of;
-use crate::lent::{bytes_of, first_bytes, push_bytes};
-use crate::reply::{Reply, one, refusal};
-use crate::tables::{u8_of, u16_of, u32_of, u64_of, usize_of, wide};
-use codec::writer::Written;
+use crate::arguments::{Argument, Arguments};
+use crate::calls::Rooms;
+use crate::reply::Reply;
 use codec::{Place, writer};
+use refusals::refusal::Refusal;
 
-pub fn answer(given: &[u64], buffer: &mut [u8]) -> Reply {
-    let at = place_of(given);
-    match u64_of(given, 0) {
-        121 => of_place(writer::new()),
-        122 => of_written(writer::with_capacity(buffer, usize_of(given, 1))),
-        123 => of_write(writer::write_u8(buffer, at, u8_of(given, 2))),
-        124 => of_write(writer::write_u16_le(buffer, at, u16_of(given, 2))),
-        125 => of_write(writer::write_u32_le(buffer, at, u32_of(given, 2))),
-        126 => of_write(writer::write_u64_le(buffer, at, u64_of(given, 2))),
-        127 => of_write(write_bytes(given, buffer, at)),
-        _ => one(wide(writer::len(at))),
+pub fn answer(
+    call: u64,
+    args: &mut Arguments<'_>,
+    rooms: &mut Rooms,
+    reply: &mut Reply,
+) -> Option<()> {
+    match call {
+        121 => reply.put(writer::new()),
+        122 => {
+            let n = args.take()?;
+            reply.put(writer::with_capacity(args.list(&mut rooms.buffer)?, n));
+        }
+        123 => written(args, rooms, reply, writer::write_u8)?,
+        124 => written(args, rooms, reply, writer::write_u16_le)?,
+        125 => written(args, rooms, reply, writer::write_u32_le)?,
+        126 => written(args, rooms, reply, writer::write_u64_le)?,
+        127 => {
+            let mut at = args.take()?;
+            let bytes = args.list(&mut rooms.bytes)?;
+            let buffer = args.list(&mut rooms.buffer)?;
+            reply.put(writer::write_bytes(buffer, &mut at, bytes));
+            reply.put(at);
+            reply.list(buffer);
+        }
+        128 => reply.put(writer::len(args.take()?)),
+        _ => {
+            let at = args.take()?;
+            reply.list(writer::into_vec(args.list(&mut rooms.buffer)?, at));
+        }
     }
+    Some(())
 }
 
-fn of_place(at: Place) -> Reply {
-    one(wide(at.pos))
-}
-
-// The refusal and the place after.
-fn of_written(w: Written) -> Reply {
-    let at = w.place;
-    refusal(w.refusal).and_size(at.pos)
-}
-
-// The same of a call that may write the buffer.
-fn of_write(w: Written) -> Reply {
-    of_written(w).and_buffer()
-}
-
-fn write_bytes(given: &[u64], buffer: &mut [u8], at: Place) -> Written {
-    let mut room = [0u8; 1024];
-    let n = bytes_of(given, 2, &mut room);
-    writer::write_bytes(buffer, at, first_bytes(&room, n))
-}
-
-// The call that answers a part of the buffer.
-pub fn into_vec(given: &[u64], buffer: &[u8], answer: &mut [u64]) -> usize {
-    push_bytes(answer, 0, writer::into_vec(buffer, place_of(given)))
+// The calls that write a number.
+fn written<T: Argument, F: FnOnce(&mut [u8], &mut Place, T) -> Result<(), Refusal>>(
+    args: &mut Arguments<'_>,
+    rooms: &mut Rooms,
+    reply: &mut Reply,
+    write: F,
+) -> Option<()>
+    requires { F.IsAlwaysCallable write }
+{
+    let mut at = args.take()?;
+    let v = args.take()?;
+    let buffer = args.list(&mut rooms.buffer)?;
+    reply.put(write(buffer, &mut at, v));
+    reply.put(at);
+    reply.list(buffer);
+    Some(())
 }

@@ -1,64 +1,58 @@
--- The slots that are left begin with the pair of this one.
-use Rattle.std.proofs.Common.{◌≡◌, ℕ, ◌+◌, ◌<◌, ◌≤◌, Bool, true, false, ◌&&◌, List, length, slice_index_or, ℤ, pos, sym, ap, ◌∙◌, true≢false, arith, rules, w64, SFits, to_z, of_z}
-use mathlib.Core.Bool.{and-false, and-true}
+-- The pairs that are left begin with this one.
+use Rattle.std.proofs.Common.{◌≡◌, ◌+◌, Bool, true, false, ◌&&◌, [], ◌∷◌, ◌++◌, length, sym, refl, ap, ◌∙◌, rules, w64, SFits, length-append}
+use Rattle.std.proofs.lemmas.Slice.Zip.{zip_turn, zip_end}
 use mir.ValLaws.{to_z-of_z}
 use lib.Ieee.{Float, binary64, add, of_int}
 use Rattle.refusals.specs.Ranges.{delay_ok}
-use Rattle.algorithms.specs.Owd.{samples_ok}
+use Rattle.algorithms.specs.Owd.{samples_ok, pairs}
 use Rattle.algorithms.specs.OwdTrend.{time, delay, plus}
-use Rattle.algorithms.specs.Passes.{stretch}
-use Rattle.algorithms.proofs.OwdStretches.{plus_next, samples_next, plus_over, samples_over}
+use Rattle.algorithms.proofs.OwdStretches.{left_from, plus_next, samples_next, plus_over, samples_over, summed_refused, summed_accepted}
 use Rattle.algorithms.proofs.passes.sums_over.Goals as goal
 
--- what the test of a slot's delay, read from its bits, shows of the delays from the slot on
-from_here : (p to : ℕ) (ts : List ℕ) (ds : List ℤ) (b : Bool) → p < to → to ≤ length ts → length ds ≡ length ts → SFits w64 (slice_index_or ds p (pos 0))
-    → b ≡ delay_ok (to_z w64 (of_z w64 (slice_index_or ds p (pos 0)))) → samples_ok (stretch p to ts ds) ≡ (b && samples_ok (stretch (p + 1) to ts ds))
-from_here p to ts ds b below within same fits e =
-    let us = slice_index_or ds p (pos 0) in
-    samples_next p to ts ds below within same ∙ ap (λ (x : Bool). x && samples_ok (stretch (p + 1) to ts ds)) (sym (e ∙ ap delay_ok (to_z-of_z w64 us fits)))
-
-pub returns-else-delay_ok : goal.returns-else-delay_ok
-returns-else-delay_ok c =
-    let l = c.loop-p in
+pub returns-then-not-delay_ok : goal.returns-then-not-delay_ok
+returns-then-not-delay_ok c =
     let a = c.args in
+    let l = c.loop-at_ms in
+    let p = c.in-Some in
     let ts = a.times.now in
     let ds = a.delays.now in
-    let fits : SFits w64 (slice_index_or ds l.p (pos 0)) = search rules in
-    let here = from_here l.p a.to ts ds c.delay_ok.result c.loop-p-test.true c.requires.1 c.requires.2 fits c.delay_ok.ensures in
-    let bad : samples_ok (stretch a.from a.to ts ds) ≡ false = sym l.invariant.3 ∙ here ∙ ap (λ (b : Bool). b && samples_ok (stretch (l.p + 1) a.to ts ds)) c.if-delay_ok.false in
-    record {
-      asked = sym (ap (λ (b : Bool). a.start.delays_ok && b) bad ∙ and-false a.start.delays_ok);
-      times = λ ok. absurd (true≢false (sym ok ∙ bad));
-      delays = λ ok. absurd (true≢false (sym ok ∙ bad));
-    }
-
-pub loop-p-preserved : goal.loop-p-preserved
-loop-p-preserved c =
-    let l = c.loop-p in
-    let a = c.args in
-    let ts = a.times.now in
-    let ds = a.delays.now in
-    let us = slice_index_or ds l.p (pos 0) in
+    let us = p.owd_us.now in
+    let n = length l.yielded in
+    let turn = zip_turn ts ds l.yielded c.into_iter-at_ms-iterator.result l.at_ms-iterator c.next.new.self c.next.result (search rules) (search rules) l.yielded_by (p.at_ms, p.owd_us) p.is c.next.ensures.steps in
     let fits : SFits w64 us = search rules in
-    let here = from_here l.p a.to ts ds c.delay_ok.result c.loop-p-test.true c.requires.1 c.requires.2 fits c.delay_ok.ensures in
-    let next = stretch (l.p + 1) a.to ts ds in (
-      omega arith,
-      plus_next l.p a.to ts ds c.loop-p-test.true c.requires.1 c.requires.2 time l.x ∙ l.invariant.1,
-      ap (λ (z : Float). plus delay (add binary64 l.y z) next) (c.exact-y.ensures ∙ ap (of_int binary64) (to_z-of_z w64 us fits))
-          ∙ plus_next l.p a.to ts ds c.loop-p-test.true c.requires.1 c.requires.2 delay l.y
-          ∙ l.invariant.2,
-      sym (here ∙ ap (λ (b : Bool). b && samples_ok next) c.if-delay_ok.true) ∙ l.invariant.3,
+    let here : delay_ok us ≡ false = sym (c.delay_ok.ensures ∙ ap delay_ok (to_z-of_z w64 us fits)) ∙ c.if-not-delay_ok.true in
+    summed_refused a.start.x a.start.y (pairs ts ds)
+    (sym l.invariant.2 ∙ samples_next n (n + 1) ts ds p.at_ms.now us refl turn ∙ ap (λ (b : Bool). b && samples_ok (left_from (n + 1) ts ds)) here)
+
+pub loop-at_ms-preserved : goal.loop-at_ms-preserved
+loop-at_ms-preserved c =
+    let a = c.args in
+    let l = c.loop-at_ms in
+    let p = c.in-Some in
+    let ts = a.times.now in
+    let ds = a.delays.now in
+    let us = p.owd_us.now in
+    let n = length l.yielded in
+    let m = length (l.yielded ++ (p.at_ms, p.owd_us) ∷ []) in
+    let on : m ≡ n + 1 = length-append l.yielded ((p.at_ms, p.owd_us) ∷ []) in
+    let turn = zip_turn ts ds l.yielded c.into_iter-at_ms-iterator.result l.at_ms-iterator c.next.new.self c.next.result (search rules) (search rules) l.yielded_by (p.at_ms, p.owd_us) p.is c.next.ensures.steps in
+    let fits : SFits w64 us = search rules in
+    let here : delay_ok us ≡ true = sym (c.delay_ok.ensures ∙ ap delay_ok (to_z-of_z w64 us fits)) ∙ c.if-not-delay_ok.false in
+    let next = left_from m ts ds in (
+      ap (λ (z : Float). plus time (add binary64 l.x z) next) c.from-x.ensures ∙ plus_next n m ts ds p.at_ms.now us on turn time l.x ∙ l.invariant.0,
+      ap (λ (z : Float). plus delay (add binary64 l.y z) next) (c.exact-y.ensures ∙ ap (of_int binary64) (to_z-of_z w64 us fits)) ∙ plus_next n m ts ds p.at_ms.now us on turn delay l.y ∙ l.invariant.1,
+      sym (samples_next n m ts ds p.at_ms.now us on turn ∙ ap (λ (b : Bool). b && samples_ok next) here) ∙ l.invariant.2,
     )
 
 pub returns : goal.returns
 returns c =
-    let l = c.loop-p in
     let a = c.args in
+    let l = c.loop-at_ms in
     let ts = a.times.now in
     let ds = a.delays.now in
-    let good : samples_ok (stretch a.from a.to ts ds) ≡ true = sym l.invariant.3 ∙ samples_over l.p a.to ts ds c.loop-p-test.false in
-    record {
-      asked = sym (ap (λ (b : Bool). a.start.delays_ok && b) good ∙ and-true a.start.delays_ok);
-      times = λ ok. sym (plus_over l.p a.to ts ds c.loop-p-test.false time l.x) ∙ l.invariant.1;
-      delays = λ ok. sym (plus_over l.p a.to ts ds c.loop-p-test.false delay l.y) ∙ l.invariant.2;
-    }
+    let end = zip_end ts ds l.yielded c.into_iter-at_ms-iterator.result l.at_ms-iterator c.next.new.self c.next.result (search rules) (search rules) l.yielded_by c.in-None.is c.next.ensures.steps in
+    let n = length l.yielded in
+    let x : l.x ≡ plus time a.start.x (pairs ts ds) = sym (plus_over n ts ds c.requires end time l.x) ∙ l.invariant.0 in
+    let y : l.y ≡ plus delay a.start.y (pairs ts ds) = sym (plus_over n ts ds c.requires end delay l.y) ∙ l.invariant.1 in
+    let good : samples_ok (pairs ts ds) ≡ true = sym l.invariant.2 ∙ samples_over n ts ds c.requires end in
+    rw (x, y) (summed_accepted a.start.x a.start.y (pairs ts ds) good)

@@ -5,14 +5,14 @@ use Rattle.refusals.proofs.MissingClock.{clock_read}
 use Rattle.metrics.proofs.WellWithin.{numbers_near}
 use Rattle.metrics.proofs.MmpMetrics.numbers_near.Goals as goal
 
-pub returns : goal.returns
+pub returns-then-near : goal.returns-then-near
 unfolding keeps_the_rule
-returns c h =
+returns-then-near c h =
     let m = c.args.self in
     let smoothed : to_z w64 (of_z w64 m.srtt.srtt_us) ≡ m.srtt.srtt_us = search rules in
     let variation : to_z w64 (of_z w64 m.srtt.rttvar_us) ≡ m.srtt.rttvar_us = search rules in
-    numbers_near m c.args.now_ms c.unwrap_or_zero-prev.result c.near_us-smoothed.result c.near_us-variation.result
-    (clock_read _ m.prev_rr_ms c.unwrap_or_zero-prev.ensures)
+    numbers_near m c.args.now_ms c.unwrap_or-prev.result c.near_us-smoothed.result c.near_us-variation.result
+    (clock_read _ m.prev_rr_ms c.unwrap_or-prev.ensures)
     (λ p q. rw (rw smoothed at (c.near_us-smoothed.ensures p), rw variation at (c.near_us-variation.ensures q)))
     c.if-near.true
     (sym c.tallies_ok.ensures ∙ h)

@@ -1,39 +1,43 @@
-use Rattle.std.proofs.Common.{sym, ◌∙◌, ne_eqb}
+-- Past the questions there is room for the counts, and the report is stale or taken.
+use Rattle.std.proofs.Common.{sym, ◌∙◌, Ok}
+use Rattle.refusals.specs.Answers.{settled_with}
+use Rattle.refusals.proofs.ResultsSayAll.{past}
 use Rattle.metrics.specs.State.{saved_in}
-use Rattle.metrics.specs.Reports.{counted, process_of}
+use Rattle.metrics.specs.Reports.{counted, process_refusal}
 use Rattle.metrics.proofs.QuestionsAnswered.{process_asked}
 use Rattle.metrics.proofs.ReportsByCase.{stale_is, newer_is}
 use Rattle.metrics.proofs.MmpMetrics.process_receiver_report.Goals as goal
 
-pub returns-then-refusal-ne0 : goal.returns-then-refusal-ne0
-unfolding process_of
-returns-then-refusal-ne0 c =
-    let asked = c.report_refusal-refusal.ensures in
-    rw (c.refuse.ensures, asked, ne_eqb _ 0 (rw asked at c.if-refusal-ne0.true))
-
-pub overflow_add-counted : goal.overflow_add-counted
-overflow_add-counted c =
-    let h = process_asked c.args.self c.args.now_ms (sym c.report_refusal-refusal.ensures ∙ c.if-refusal-ne0.false) in
+pub overflow_add-state : goal.overflow_add-state
+overflow_add-state c =
+    let a = c.args in
+    let h = process_asked a.self a.now_ms (past (process_refusal a.self a.now_ms) a.self c.in_ok-admit_report.field-0 c.in_ok-admit_report.ensures) in
     record { fits = h.seen }
 
-pub stale_report-requires : goal.stale_report-requires
+pub stale_report-outcome-requires : goal.stale_report-outcome-requires
 unfolding counted
-stale_report-requires c = (process_asked c.args.self c.args.now_ms (sym c.report_refusal-refusal.ensures ∙ c.if-refusal-ne0.false)).room
+stale_report-outcome-requires c =
+    let a = c.args in
+    (process_asked a.self a.now_ms (past (process_refusal a.self a.now_ms) a.self c.in_ok-admit_report.field-0 c.in_ok-admit_report.ensures)).room
+
+pub newer_report-outcome-requires : goal.newer_report-outcome-requires
+unfolding counted
+newer_report-outcome-requires c =
+    let a = c.args in
+    (process_asked a.self a.now_ms (past (process_refusal a.self a.now_ms) a.self c.in_ok-admit_report.field-0 c.in_ok-admit_report.ensures)).room
 
 pub returns-then-finds_stale : goal.returns-then-finds_stale
-unfolding counted saved_in
+unfolding counted saved_in settled_with
 returns-then-finds_stale c =
     let a = c.args in
-    c.stale_report.ensures
-    ∙ sym (stale_is a.self a.rr a.our_timestamp_ms a.now_ms (sym c.report_refusal-refusal.ensures ∙ c.if-refusal-ne0.false) (sym c.finds_stale.ensures ∙ c.if-finds_stale.true))
+    let asked = past (process_refusal a.self a.now_ms) a.self c.in_ok-admit_report.field-0 c.in_ok-admit_report.ensures in
+    rw (stale_is a.self a.rr a.our_timestamp_ms a.now_ms asked (sym c.finds_stale.ensures ∙ c.if-finds_stale.true))
+    (λ i. Ok (c.stale_report-outcome.ensures.state i, c.stale_report-outcome.ensures.answer i))
 
-pub newer_report-requires : goal.newer_report-requires
-unfolding counted
-newer_report-requires c = (process_asked c.args.self c.args.now_ms (sym c.report_refusal-refusal.ensures ∙ c.if-refusal-ne0.false)).room
-
-pub returns : goal.returns
-unfolding counted saved_in
-returns c =
+pub returns-else-finds_stale : goal.returns-else-finds_stale
+unfolding counted saved_in settled_with
+returns-else-finds_stale c =
     let a = c.args in
-    c.newer_report.ensures
-    ∙ sym (newer_is a.self a.rr a.our_timestamp_ms a.now_ms (sym c.report_refusal-refusal.ensures ∙ c.if-refusal-ne0.false) (sym c.finds_stale.ensures ∙ c.if-finds_stale.false))
+    let asked = past (process_refusal a.self a.now_ms) a.self c.in_ok-admit_report.field-0 c.in_ok-admit_report.ensures in
+    rw (newer_is a.self a.rr a.our_timestamp_ms a.now_ms asked (sym c.finds_stale.ensures ∙ c.if-finds_stale.false))
+    (λ i. Ok (c.newer_report-outcome.ensures.state i, c.newer_report-outcome.ensures.answer i))

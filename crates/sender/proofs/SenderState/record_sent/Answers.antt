@@ -1,6 +1,7 @@
 -- The counters have room: an interval's start moves neither, and the questions asked for it.
-use Rattle.std.proofs.Common.{◌≡◌, ℕ, Bool, true, false, cond, sym, refl, ap, ◌∙◌, arith}
-use Rattle.sender.specs.Sent.{begun, opened}
+use Rattle.std.proofs.Common.{◌≡◌, ℕ, Bool, true, false, cond, refl, ap, ◌∙◌, arith}
+use Rattle.refusals.proofs.ResultsSayAll.{past}
+use Rattle.sender.specs.Sent.{begun, opened, sent_refusal}
 use Rattle.sender.specs.declared.SenderState.{SenderState}
 use Rattle.sender.proofs.QuestionsAnswered.{sent_asked}
 use Rattle.sender.proofs.SenderState.record_sent.Goals as goal
@@ -14,16 +15,16 @@ unmoved field s counter timestamp e = go s.interval_has_data
     go true = refl
     go false = e
 
-pub overflow_add-state : goal.overflow_add-state
-overflow_add-state c =
+pub overflow_add-result : goal.overflow_add-result
+overflow_add-result c =
     let a = c.args in
-    let h = sent_asked a.self a.bytes (sym c.sent_refusal-refusal.ensures ∙ c.if-refusal-eq0.true) in
-    let e = ap (λ x. x.cumulative_packets_sent) c.open-state.ensures ∙ unmoved (λ x. x.cumulative_packets_sent) a.self a.counter a.timestamp refl in
+    let h = sent_asked a.self a.bytes (past (sent_refusal a.self a.bytes) a.self c.in_ok-admit_sent.field-0 c.in_ok-admit_sent.ensures) in
+    let e = ap (λ x. x.cumulative_packets_sent) c.open-opened.ensures ∙ unmoved (λ x. x.cumulative_packets_sent) a.self a.counter a.timestamp refl in
     record { fits = omega (arith, e, h.packets_fit) }
 
-pub overflow_add-state-then-refusal-eq0 : goal.overflow_add-state-then-refusal-eq0
-overflow_add-state-then-refusal-eq0 c =
+pub overflow_add-result-2 : goal.overflow_add-result-2
+overflow_add-result-2 c =
     let a = c.args in
-    let h = sent_asked a.self a.bytes (sym c.sent_refusal-refusal.ensures ∙ c.if-refusal-eq0.true) in
-    let e = ap (λ x. x.cumulative_bytes_sent) c.open-state.ensures ∙ unmoved (λ x. x.cumulative_bytes_sent) a.self a.counter a.timestamp refl in
+    let h = sent_asked a.self a.bytes (past (sent_refusal a.self a.bytes) a.self c.in_ok-admit_sent.field-0 c.in_ok-admit_sent.ensures) in
+    let e = ap (λ x. x.cumulative_bytes_sent) c.open-opened.ensures ∙ unmoved (λ x. x.cumulative_bytes_sent) a.self a.counter a.timestamp refl in
     record { fits = omega (arith, e, h.bytes_fit) }

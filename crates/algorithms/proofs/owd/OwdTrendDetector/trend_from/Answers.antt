@@ -25,26 +25,24 @@ module _ (sum-x sum-y : Float) (ps : List Pair) (n : ℕ) (count : length ps ≡
 pub returns-then-n-lt2 : goal.returns-then-n-lt2
 returns-then-n-lt2 c =
     let a = c.args in
-    few a.sum_x a.sum_y (window a.self a.times.now a.delays.now) a.self.count (window_length a.self a.times.now a.delays.now c.requires.0) c.if-n-lt2.true
+    few a.sums.x a.sums.y (window a.self a.times.now a.delays.now) a.self.count (window_length a.self a.times.now a.delays.now c.requires.0) c.if-n-lt2.true
 
 pub returns-then-m : goal.returns-then-m
 unfolding slope of_bits
 returns-then-m c =
     let a = c.args in
-    let n = c.nearest_u64_to_f64-n_f in
     let m = c.window_moments-m in
     yes _ c.if-m.true refl
-    ∙ enough a.sum_x a.sum_y (window a.self a.times.now a.delays.now) a.self.count (window_length a.self a.times.now a.delays.now c.requires.0) c.if-n-lt2.false
-    n.result m.result.num m.result.den n.ensures m.ensures.0 m.ensures.1
+    ∙ enough a.sums.x a.sums.y (window a.self a.times.now a.delays.now) a.self.count (window_length a.self a.times.now a.delays.now c.requires.0) c.if-n-lt2.false
+    (of_int binary64 (pos a.self.count)) m.result.num m.result.den refl m.ensures.0 m.ensures.1
 
 pub returns : goal.returns
 unfolding slope of_bits
 returns c =
     let a = c.args in
-    let n = c.nearest_u64_to_f64-n_f in
     let m = c.window_moments-m in
     let z = mul binary64 (div binary64 m.result.num m.result.den) thousand_float in
     to_z-of_z w32 c.to_i32.result (record { sfits = subst (λ (k : ℤ). mag k < 2 ^ 31) (sym c.to_i32.ensures) (to_signed_in 31 z) })
     ∙ no _ c.if-m.false c.to_i32.ensures
-    ∙ enough a.sum_x a.sum_y (window a.self a.times.now a.delays.now) a.self.count (window_length a.self a.times.now a.delays.now c.requires.0) c.if-n-lt2.false
-    n.result m.result.num m.result.den n.ensures m.ensures.0 m.ensures.1
+    ∙ enough a.sums.x a.sums.y (window a.self a.times.now a.delays.now) a.self.count (window_length a.self a.times.now a.delays.now c.requires.0) c.if-n-lt2.false
+    (of_int binary64 (pos a.self.count)) m.result.num m.result.den refl m.ensures.0 m.ensures.1

@@ -1,5 +1,0 @@
--- The turns that are left fall.
-use Rattle.bench.proofs.run_figures.Given as goal
-
-abbrev pub decreases-loop-left : goal.decreases-loop-left
-decreases-loop-left l = l.left
