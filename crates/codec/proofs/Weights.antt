@@ -40,7 +40,7 @@ summed s (suc k) =
     ap₂ ◌+◌ (summed s k) (rw e (mul_comm (get_or s (suc k) 0) (256 ^ suc k)))
 
 -- the n bytes from an offset to a position on
-unfoldable listed : List ℕ → ℕ → ℕ → ℕ → List ℕ
+unfoldable pub listed : List ℕ → ℕ → ℕ → ℕ → List ℕ
 listed s at i zero = []
 listed s at i (suc n) = get_or s (at + i) 0 ∷ listed s at (i + 1) n
 
@@ -63,6 +63,15 @@ taken_from s at i zero h = refl
 taken_from s at i (suc n) h =
     let next : at + (i + 1) ≡ suc (at + i) = omega arith in
     rw (drop-cons s (at + i) 0 (omega arith)) (ap (λ (l : List ℕ). get_or s (at + i) 0 ∷ l) (rw next at (taken_from s at (i + 1) n (omega arith))))
+
+-- ---- bytes taken out of a slice one by one: they read as they do there, and are a part of it
+pub handed : (s : List ℕ) (at n : ℕ) → le_at (get_or s at 0 ∷ listed s at 1 n) 0 (suc n) ≡ le_at s at (suc n)
+unfolding listed
+handed s at n = rw (add-zero at) at (from_offset s at 0 (suc n))
+
+pub taken : (s : List ℕ) (at n : ℕ) → at + suc n ≤ length s → get_or s at 0 ∷ listed s at 1 n ≡ take (suc n) (drop at s)
+unfolding listed
+taken s at n h = rw (add-zero at) at (taken_from s at 0 (suc n) (omega (arith, add-zero at)))
 
 -- a part of a slice reads as it does there
 pub part_reads : (s : List ℕ) (at n : ℕ) → at + n ≤ length s → le_at (take n (drop at s)) 0 n ≡ le_at s at n

@@ -1,9 +1,9 @@
 -- What `Reader`'s methods answer (codec.rs; document 01, question 7), over the bytes of the payload and the place. Definitions only.
-use Rattle.std.specs.Prelude.{ℕ, ◌+◌, ◌-◌, ◌^◌, min, Bool, cond, List, length, take, drop, leb, Result, Ok, Err}
-use Rattle.std.specs.declared.ops.Range.{Range}
+use Rattle.std.specs.Prelude.{ℕ, ◌+◌, ◌-◌, ◌^◌, ◌++◌, min, Bool, cond, List, length, take, drop, leb, codes, decimal, Result, Ok, Err}
 use Rattle.codec.specs.LittleEndian.{field_at}
 use Rattle.codec.specs.declared.Place.{Place}
 use Rattle.codec.specs.declared.reader.TooShort.{TooShort}
+use Rattle.codec.specs.declared.reader.Span.{Span}
 
 -- whether n bytes from a position on lie in the payload
 abbrev pub within : List ℕ → ℕ → ℕ → Bool
@@ -16,6 +16,10 @@ needed_for pos n = min (pos + n) (2 ^ 64 - 1)
 -- `MessageTooShort` with the two lengths
 abbrev pub too_short : List ℕ → ℕ → ℕ → TooShort
 too_short s pos n = record { needed = needed_for pos n; given = length s }
+
+-- its text, as `Display` writes it
+abbrev pub short_text : TooShort → List ℕ
+short_text short = codes "the payload is too short: " ++ (decimal short.needed ++ (codes " bytes needed, " ++ (decimal short.given ++ codes " given")))
 
 -- enough, or too short
 abbrev pub Length : Type 0
@@ -63,7 +67,7 @@ unfoldable pub read_u64 : List ℕ → Place → Result ℕ TooShort
 read_u64 s at = read_as (length_answer s at.pos 8) (field_at s at.pos 8)
 
 -- where n bytes stand: from the place on
-unfoldable pub read_bytes : List ℕ → Place → ℕ → Result (Range ℕ) TooShort
+unfoldable pub read_bytes : List ℕ → Place → ℕ → Result Span TooShort
 read_bytes s at n = read_as (length_answer s at.pos n) (record { start = at.pos; end = at.pos + n })
 
 -- n bytes as they stand

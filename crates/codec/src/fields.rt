@@ -1,6 +1,6 @@
 // Little-endian fields at a position of a slice. Every public function is total: a field that does not lie in the slice whole reads as 0, and a store that
 // does not fit writes nothing.
-ghost use Rattle.std.specs.Prelude.{◌≡◌, ◌-◌, length};
+ghost use Rattle.std.specs.Prelude.{◌≡◌, ◌+◌, ◌-◌, ◌≤◌, length, take, drop};
 ghost use Rattle.std.specs.Int.{w32, cast_signed, cast_unsigned};
 ghost use Rattle.codec.specs.LittleEndian.{bytes_at, field_at, stored, with_field};
 
@@ -11,12 +11,23 @@ pub fn left_at(s: &[u8], at: usize) -> usize
     s.len().saturating_sub(at)
 }
 
+// The N bytes from a position on. The caller has shown that they are there, so nothing is tested here.
+pub(crate) fn array_in<const N: usize>(s: &[u8], at: usize) -> [u8; N]
+    requires { at + N ≤ length s.now }
+    ensures { result ≡ take N (drop at s.now) }
+{
+    *s[at..at + N].as_array().unwrap()
+}
+
 // The N bytes from a position on, where they lie in the slice whole.
 #[tactic(auto, unfolding(crate::specs::LittleEndian::bytes_at))]
 pub(crate) fn bytes_at<const N: usize>(s: &[u8], at: usize) -> Option<[u8; N]>
     ensures { result ≡ bytes_at s.now at N }
 {
-    s.get(at..at.saturating_add(N))?.as_array().copied()
+    if s.len() < at.saturating_add(N) {
+        return None;
+    }
+    Some(array_in(s, at))
 }
 
 #[tactic(auto, unfolding(crate::specs::LittleEndian::field_at, crate::specs::LittleEndian::le_at))]

@@ -1,15 +1,14 @@
 // `Reader`: its methods as functions on the payload and the place. A read moves the place past what it read. One that would pass the end leaves it, and
 // answers how many bytes it needed, counted from the start, and how many were given.
-ghost use Rattle.std.specs.Prelude.{◌≡◌, ◌-◌, length, drop};
-ghost use Rattle.codec.specs.Reading.{needed_for, length_answer, place_after, read_u8, read_u16, read_u32, read_u64, read_bytes, read_array};
+ghost use Rattle.std.specs.Prelude.{◌≡◌, ◌-◌, length, drop, Some};
+ghost use Rattle.codec.specs.Reading.{needed_for, short_text, length_answer, place_after, read_u8, read_u16, read_u32, read_u64, read_bytes, read_array};
 ghost use Rattle.refusals.specs.declared.refusal.Refusal.TheVariants.{Payload};
 
 use crate::Place;
-use crate::fields::{bytes_at, left_at};
+use crate::fields::{array_in, left_at};
 use refusals::refusal::Refusal;
 use std::error::Error;
 use std::fmt;
-use std::ops::Range;
 
 // The payload lacks what a read asks for: the Rust's `MessageTooShort`.
 #[derive(Clone, Copy, Debug, PartialEq, Eq)]
@@ -18,8 +17,17 @@ pub struct TooShort {
     pub given: usize,
 }
 
+// Where bytes stand: they are `&payload[start..end]`. It is `Copy`, and the library's range is not.
+#[derive(Clone, Copy, Debug, PartialEq, Eq)]
+pub struct Span {
+    pub start: usize,
+    pub end: usize,
+}
+
 // By hand, as a refusal's.
 impl fmt::Display for TooShort {
+    ghost output = { λ short. Some (short_text short) };
+
     fn fmt<W: fmt::Write>(&self, f: &mut fmt::Formatter<W>) -> fmt::Result {
         write!(
             f,
@@ -85,31 +93,26 @@ pub fn advance(s: &[u8], at: &mut Place, n: usize) -> Result<(), TooShort>
     Ok(())
 }
 
-// Where the n bytes stand: they are `&payload[range]`.
+// Where the n bytes stand.
 #[tactic(auto, unfolding(crate::specs::Reading::read_bytes, crate::specs::Reading::read_as, crate::specs::Reading::length_answer, crate::specs::Reading::place_after))]
-pub fn read_bytes(s: &[u8], at: &mut Place, n: usize) -> Result<Range<usize>, TooShort>
+pub fn read_bytes(s: &[u8], at: &mut Place, n: usize) -> Result<Span, TooShort>
     ensures answer { result ≡ read_bytes s.now at.old n }
     ensures place { at.new ≡ place_after s.now at.old n }
 {
     let start = at.pos;
     advance(s, at, n)?;
-    Ok(start..at.pos)
+    Ok(Span { start, end: at.pos })
 }
 
 // The N bytes as they stand.
-#[tactic(auto, unfolding(crate::specs::Reading::read_array, crate::specs::Reading::read_as, crate::specs::Reading::length_answer, crate::specs::Reading::place_after, crate::specs::LittleEndian::bytes_at))]
+#[tactic(auto, unfolding(crate::specs::Reading::read_array, crate::specs::Reading::read_as, crate::specs::Reading::length_answer, crate::specs::Reading::place_after))]
 pub fn read_array<const N: usize>(s: &[u8], at: &mut Place) -> Result<[u8; N], TooShort>
     ensures answer { result ≡ read_array s.now at.old N }
     ensures place { at.new ≡ place_after s.now at.old N }
 {
-    let Some(bytes) = bytes_at(s, at.pos) else {
-        return Err(TooShort {
-            needed: needed_for(at.pos, N),
-            given: s.len(),
-        });
-    };
-    at.pos += N;
-    Ok(bytes)
+    let start = at.pos;
+    advance(s, at, N)?;
+    Ok(array_in(s, start))
 }
 
 // A number of each width is the array of its bytes and the type's own `from_le_bytes`. The names are the commit's.

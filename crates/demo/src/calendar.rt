@@ -12,19 +12,26 @@ pub const YEAR: u32 = 365 * DAY;
 // The minute of each day in which both ends rekey.
 const REKEY: u32 = 90;
 
+// 15.9 years: a minute's clock is taken modulo it, so that no clock can overflow. The life is ten years.
+const MOST_MINUTES: u32 = 1 << 23;
+
 // A minute has four frames, one to a second: how late each is beside the others.
 pub const WOBBLES_MS: [u8; 4] = [0, 1, 3, 0];
 
-// A minute of the life. 32 bits of them are so few that no clock can overflow.
+const _: () = prove!(
+    WOBBLES_MS[0] < 4 && WOBBLES_MS[1] < 4 && WOBBLES_MS[2] < 4 && WOBBLES_MS[3] < 4
+);
+
+// A minute of the life.
 #[derive(Clone, Copy)]
 pub struct Minute(pub u32);
 
 impl Minute {
     // Its beginning by the sender's clock.
     pub fn clock_ms(self) -> u64
-        ensures { result < 2 ^ 48 }
+        ensures { result < 2 ^ 40 }
     {
-        60_000 * u64::from(self.0)
+        60_000 * u64::from(self.0 % MOST_MINUTES)
     }
 
     fn of_week(self) -> u32 {
@@ -45,7 +52,9 @@ impl Minute {
     }
 
     // The slow spell is ten minutes long.
-    pub fn round_trip_ms(self) -> u32 {
+    pub fn round_trip_ms(self) -> u32
+        ensures { result < 1000 }
+    {
         match self.of_week() {
             40..50 => 180,
             _ if self.is_longer() => 4,
@@ -60,7 +69,9 @@ impl Minute {
     }
 
     // The minutes since the last rekey, where counters begin again. The sender's clock goes on, so that its timestamps wrap.
-    pub fn of_session(self) -> u32 {
+    pub fn of_session(self) -> u32
+        ensures { result < 1440 }
+    {
         self.0
             .checked_sub(REKEY)
             .map_or(self.0, |since| since % DAY)

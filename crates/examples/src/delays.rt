@@ -2,7 +2,6 @@
 use crate::lines::{Lines, Shown};
 use algorithms::owd::OwdTrendDetector;
 use algorithms::spin::SpinBitState;
-use refusals::ranges::MAX_CLOCK_MS;
 
 // Pairs (0 ms, 0 µs), (1000, 1000): trend 1000.
 pub fn trend(out: &mut impl Lines) -> Shown {
@@ -86,9 +85,5 @@ pub fn spin(out: &mut impl Lines) -> Shown {
         rtt_ms.unwrap_or(77),
         0,
     )?;
-    out.refusal(
-        "spin, clock 2^48",
-        two.rx_observe(false, 3, MAX_CLOCK_MS + 1),
-        2,
-    )
+    out.refusal("spin, clock 2^48", two.rx_observe(false, 3, 1 << 48), 2)
 }

@@ -4,13 +4,16 @@ use crate::lines::{Lines, Shown, Stop};
 use crate::link::Link;
 use gaps::{Arrival, GapTracker};
 use receiver::ReceiverState;
-use refusals::ranges::MAX_CLOCK_MS;
 
 // A tracker of a link without bursts that expects this counter.
 fn due(counter: u64) -> GapTracker {
     GapTracker {
         expected_next: Some(counter),
-        ..GapTracker::new()
+        in_burst: false,
+        current_burst_len: 0,
+        burst_count: 0,
+        max_burst_len: 0,
+        total_burst_len: 0,
     }
 }
 
@@ -66,7 +69,7 @@ pub fn last_counter(out: &mut impl Lines) -> Shown {
 impl Link {
     // A sampled frame of this counter.
     fn comes(&mut self, counter: u64) -> Shown {
-        self.sampled(counter, 500, 1000)
+        self.frame(counter, 500, 1000, true)
     }
 
     fn lateness(self) -> Result<u64, Stop> {
@@ -83,7 +86,7 @@ pub fn greatest(out: &mut impl Lines) -> Shown {
     out.number("then 5: lateness", link.lateness()?, 5)?;
     link.comes(7)?;
     out.number("then 7: lateness", link.lateness()?, 5)?;
-    link.counted(1)?;
+    link.frame(1, 500, 1000, false)?;
     out.number("then 1, not sampled: lateness", link.lateness()?, 9)?;
     let (reported, report) = link.build_report(2000)?;
     out.holds("a report is made", report.is_some())?;
@@ -99,7 +102,7 @@ pub fn rekey(out: &mut impl Lines) -> Shown {
     let mut link = Link::new();
     link.comes(9)?;
     link.comes(5)?;
-    let too_late = link.state.reset_for_rekey(MAX_CLOCK_MS + 1);
+    let too_late = link.state.reset_for_rekey(1 << 48);
     let same = out.given_back("a rekey refused by", too_late, 2)?;
     out.number("after it: lateness", same.interval_max_lateness()?, 5)?;
     link.state = link.state.reset_for_rekey(1000)?;
@@ -118,7 +121,7 @@ pub fn no_report(out: &mut impl Lines) -> Shown {
     out.holds("lateness 5 and no data: no report", report.is_none())?;
     out.number("after it: lateness", unmoved.interval_max_lateness()?, 5)?;
     link.state.interval_has_data = true;
-    let too_late = link.build_report(MAX_CLOCK_MS + 1);
+    let too_late = link.build_report(1 << 48).map(|(state, _)| state);
     let same = out.given_back("a report refused by", too_late, 2)?;
     out.number("after it: lateness", same.interval_max_lateness()?, 5)?;
     let mut s = ReceiverState {

@@ -10,7 +10,7 @@ pub enum Stop {
     Output(io::Error),
     // A call that the example takes for granted.
     Refused(Refusal),
-    // A call that the rules refuse, or one that makes a report by the rules and made none.
+    // A call that makes a report by the rules, and made none.
     Unruly,
 }
 
@@ -104,18 +104,15 @@ pub trait Lines: Write {
         self.number(name, number, said)
     }
 
-    // The same of a call that hands the record back beside a refusal.
-    fn given_back<T: Copy, S: Copy>(
+    // The same of a call that hands the record back beside a refusal: that record, or the new one of a call that is not refused, which the lines after it tell.
+    fn given_back<S: Copy>(
         &mut self,
         name: impl fmt::Display + Drop,
-        answer: Result<T, Refused<S>>,
+        answer: Result<S, Refused<S>>,
         said: u64,
     ) -> Result<S, Stop> {
         self.refusal(name, answer, said)?;
-        match answer {
-            Ok(_) => Err(Stop::Unruly),
-            Err(refused) => Ok(refused.state),
-        }
+        Ok(answer.unwrap_or_else(|refused| refused.state))
     }
 }
 

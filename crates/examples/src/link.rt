@@ -38,17 +38,23 @@ impl Link {
         Ok(())
     }
 
-    // A frame that is counted and not sampled.
-    pub fn counted(&mut self, counter: u64) -> Result<(), Stop> {
+    // A frame that is sampled or only counted, as the call is told.
+    pub fn frame(
+        &mut self,
+        counter: u64,
+        timestamp: u32,
+        now_ms: u64,
+        sampled: bool,
+    ) -> Result<(), Stop> {
         self.state = self.state.record_frame(
             &mut self.times,
             &mut self.delays,
             counter,
-            500,
+            timestamp,
             BYTES,
             false,
-            1000,
-            false,
+            now_ms,
+            sampled,
         )?;
         Ok(())
     }

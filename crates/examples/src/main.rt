@@ -1,4 +1,6 @@
 // The worked examples of document 01, "Promises and the checked examples", and more, run and compared. A line for each: ok or WRONG, what it is, what came out.
+//
+// An input and what the rules say of it are written as numbers here, and not taken from the code that is tried: a wrong bound there would move its own example.
 
 #![tactic(auto)]
 

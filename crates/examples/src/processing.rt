@@ -1,7 +1,6 @@
 // The metrics: round trips, stale reports, delivery, a rekey, and refusals.
 use crate::lines::{Lines, Shown, Stop};
 use metrics::{MmpMetrics, RrLog};
-use refusals::ranges::MAX_CLOCK_MS;
 use wire::receiver_report::{ReceiverReport, no_report};
 
 // A report of so many frames sent and received, with an echo and a dwell.
@@ -88,7 +87,7 @@ pub fn refused(out: &mut impl Lines) -> Shown {
     let m = MmpMetrics::new();
     out.refusal(
         "a report at clock 2^48",
-        m.process_receiver_report(rr, 0, MAX_CLOCK_MS + 1),
+        m.process_receiver_report(rr, 0, 1 << 48),
         2,
     )?;
     let full = MmpMetrics {

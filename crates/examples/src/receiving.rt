@@ -2,7 +2,6 @@
 use crate::lines::{Lines, Shown, Stop};
 use crate::link::Link;
 use receiver::ReceiverState;
-use refusals::ranges::{MAX_CLOCK_MS, MAX_DELAY_US};
 use wire::receiver_report::ReceiverReport;
 
 // Rekey 10000, sample 24999 / 25000: in grace / out. The echo moves in grace too.
@@ -48,7 +47,7 @@ pub fn dwell(out: &mut impl Lines) -> Shown {
 fn counted(counters: &[u64]) -> Result<Link, Stop> {
     let mut link = Link::new();
     for counter in counters {
-        link.counted(*counter)?;
+        link.frame(*counter, 0, 0, false)?;
     }
     Ok(link)
 }
@@ -207,7 +206,7 @@ pub fn refused_frames(out: &mut impl Lines) -> Shown {
     let mut times = [0; 2];
     let mut delays = [0; 2];
     let s = ReceiverState::new(2);
-    out.refusal("rekey at 2^48", s.reset_for_rekey(MAX_CLOCK_MS + 1), 2)?;
+    out.refusal("rekey at 2^48", s.reset_for_rekey(1 << 48), 2)?;
     out.refusal(
         "a frame received of 2^32 bytes",
         s.record_recv(&mut times, &mut delays, 0, 0, 1 << 32, false, 0),
@@ -223,6 +222,7 @@ pub fn refused_frames(out: &mut impl Lines) -> Shown {
         10,
     )?;
     let uneven = ReceiverState {
+        cumulative_packets_recv: 0,
         cumulative_reorder_count: 1,
         ..s
     };
@@ -232,7 +232,7 @@ pub fn refused_frames(out: &mut impl Lines) -> Shown {
 // Refusals by 4 and 5: the windows of a report.
 pub fn refused_reports(out: &mut impl Lines) -> Shown {
     let times = [0; 2];
-    let delays = [MAX_DELAY_US + 1; 2];
+    let delays = [(1 << 42) + 1; 2];
     let mut s = ReceiverState::new(2);
     out.refusal("a time window of 3", s.build_report(&[0; 3], &delays, 0), 4)?;
     out.refusal(

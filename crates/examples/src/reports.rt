@@ -1,5 +1,6 @@
 // Report bytes: written, read back, and refused.
-use crate::lines::{Lines, Shown, Stop};
+use crate::lines::{Lines, Shown};
+use codec::reader::TooShort;
 use wire::path_mtu::PathMtuNotification;
 use wire::receiver_report::ReceiverReport;
 use wire::sender_report::SenderReport;
@@ -125,16 +126,22 @@ pub fn no_room(out: &mut impl Lines) -> Shown {
     out.number("the first byte stays", buffer[0], 9)
 }
 
+// The lengths needed and given that a refusal tells, 0 and 0 where none does.
+fn lengths<T: Copy>(decoded: Result<T, TooShort>) -> (u64, u64) {
+    decoded.map_or_else(
+        |short| (short.needed as u64, short.given as u64),
+        |_| (0, 0),
+    )
+}
+
 // Number 7 for a payload that is too short, with both lengths.
 pub fn too_short(out: &mut impl Lines) -> Shown {
     let payload = [9; 66];
     let received = ReceiverReport::decode(&payload);
     out.refusal("payload of 66: refusal", received, 7)?;
-    let Err(short) = received else {
-        return Err(Stop::Unruly);
-    };
-    out.number("payload of 66: needed", short.needed as u64, 67)?;
-    out.number("payload of 66: given", short.given as u64, 66)?;
+    let (needed, given) = lengths(received);
+    out.number("payload of 66: needed", needed, 67)?;
+    out.number("payload of 66: given", given, 66)?;
     // Where there is no report, 0 is shown.
     let highest = received.map_or(0, |report| report.highest_counter);
     out.number("payload of 66: highest counter", highest, 0)?;
@@ -143,8 +150,6 @@ pub fn too_short(out: &mut impl Lines) -> Shown {
         SenderReport::decode(&payload),
         0,
     )?;
-    let Err(short) = SenderReport::decode(&payload[..46]) else {
-        return Err(Stop::Unruly);
-    };
-    out.number("sender payload of 46: needed", short.needed as u64, 47)
+    let (needed, _) = lengths(SenderReport::decode(&payload[..46]));
+    out.number("sender payload of 46: needed", needed, 47)
 }

@@ -47,12 +47,12 @@ pub fn is_stale(kept: Counters, rr: ReceiverReport) -> bool
     ensures { result ≡ stale (saved kept) rr }
 {
     let new = Counters::from(rr);
-    let fell = (new.highest < kept.highest)
-        | (new.packets < kept.packets)
-        | (new.bytes < kept.bytes)
-        | (new.ecn < kept.ecn)
-        | (new.reorders < kept.reorders);
-    fell | (new == kept)
+    new.highest < kept.highest
+        || new.packets < kept.packets
+        || new.bytes < kept.bytes
+        || new.ecn < kept.ecn
+        || new.reorders < kept.reorders
+        || new == kept
 }
 
 // --- Round trip ---
@@ -104,16 +104,23 @@ pub struct Tallies {
     pub failures: u64,
 }
 
-// The rule of the six counts: every report seen is of one of five kinds. 128 bits hold the sum.
+// The rule of the six counts: every report seen is of one of five kinds. Each kind is taken off what is left of the reports, so that no sum can wrap.
 pub fn tallies_ok(t: Tallies) -> bool
     ensures { result ≡ tallies_ok t.reports_seen t.stale t.no_echo t.samples t.zeros t.failures }
 {
-    let kinds = u128::from(t.stale)
-        + u128::from(t.no_echo)
-        + u128::from(t.samples)
-        + u128::from(t.zeros)
-        + u128::from(t.failures);
-    kinds == u128::from(t.reports_seen)
+    let Some(fresh) = t.reports_seen.checked_sub(t.stale) else {
+        return false;
+    };
+    let Some(echoes) = fresh.checked_sub(t.no_echo) else {
+        return false;
+    };
+    let Some(invalid) = echoes.checked_sub(t.samples) else {
+        return false;
+    };
+    let Some(failures) = invalid.checked_sub(t.zeros) else {
+        return false;
+    };
+    t.failures == failures
 }
 
 // --- Delivery ---

@@ -6,14 +6,14 @@ mod stale; // reports/stale.rt: the stale test
 mod joined; // reports/joined.rt: joined tests, for speed alone
 
 ghost use Rattle.std.specs.Prelude.{◌≡◌};
-ghost use Rattle.refusals.specs.Answers.{admitted};
+ghost use Rattle.refusals.specs.Answers.{admitted, passed};
 ghost use Rattle.metrics.specs.Reports.{Room, newer_state, newer_outcome, process_refusal, process_of, reported};
 
 use crate::{MmpMetrics, Outcome};
 use figures::round_trip;
 use refusals::questions::Questions;
 use refusals::ranges::{clock_ok, counter_u64_ok};
-use refusals::refusal::Refused;
+use refusals::refusal::{Refusal, Refused};
 use wire::receiver_report::ReceiverReport;
 
 impl MmpMetrics {
@@ -36,9 +36,9 @@ impl MmpMetrics {
     }
 
     // The questions of a report.
-    #[tactic(auto, unfolding(crate::specs::Reports::process_refusal, refusals::specs::Questions::first_no, refusals::specs::Questions::asked, refusals::specs::Answers::admitted))]
-    fn admit_report(self, now_ms: u64) -> Result<(), Refused<MmpMetrics>>
-        ensures { result ≡ admitted (process_refusal self now_ms) self }
+    #[tactic(auto, unfolding(crate::specs::Reports::process_refusal, refusals::specs::Questions::first_no, refusals::specs::Questions::asked, refusals::specs::Answers::answered))]
+    fn ask_report(self, now_ms: u64) -> Result<(), Refusal>
+        ensures { result ≡ passed (process_refusal self now_ms) }
     {
         if self.floats_near() && self.numbers_near(now_ms) {
             return Ok(());
@@ -47,7 +47,19 @@ impl MmpMetrics {
         q.state = self.keeps_rule();
         q.clocks = clock_ok(now_ms);
         q.counters = counter_u64_ok(self.reports_seen, 1);
-        q.admit(self)
+        q.first_no()
+    }
+
+    // The same, with the record beside a refusal: put there last, so that an accepted report copies none.
+    #[inline(always)]
+    #[tactic(auto, unfolding(refusals::specs::Answers::answered, refusals::specs::Answers::admitted))]
+    fn admit_report(self, now_ms: u64) -> Result<(), Refused<MmpMetrics>>
+        ensures { result ≡ admitted (process_refusal self now_ms) self }
+    {
+        self.ask_report(now_ms).map_err(|refusal| Refused {
+            refusal,
+            state: self,
+        })
     }
 
     // Processes a report from the peer about our traffic. `our_timestamp_ms` is session-relative (for RTT), `now_ms` monotonic (for the goodput rate).
@@ -64,11 +76,11 @@ impl MmpMetrics {
         let mut state = self;
         // Counted before the stale test: "a report arrived at all", not "a report was useful".
         state.reports_seen += 1;
-        let outcome = if state.finds_stale(rr) {
-            state.stale_report()
-        } else {
-            state.newer_report(rr, our_timestamp_ms, now_ms)
-        };
+        if state.finds_stale(rr) {
+            let outcome = state.stale_report();
+            return Ok((state, outcome));
+        }
+        let outcome = state.newer_report(rr, our_timestamp_ms, now_ms);
         Ok((state, outcome))
     }
 }

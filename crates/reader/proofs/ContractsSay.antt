@@ -1,5 +1,5 @@
 -- From the contracts themselves: what a held reader answers, and where it stands then, is what the function on a slice and a place answers at its payload and its position; what a function that makes a
--- reader answers is what the reader's own method answers there. `Learnt κs a r s` is the contract of a function, of the arguments a, the result r and the lent memory at exit s.
+-- reader answers is what the reader's own method answers there, with the place where it leaves the reader. `Learnt κs a r s` is the contract of a function, of the arguments a, the result r and the lent memory at exit s.
 use Rattle.std.proofs.Common.{◌≡◌, ℕ, sym, ap, ap₂, ◌∙◌}
 use mir.Syntax.{w64}
 use mir.Val.{Fits}
@@ -91,51 +91,57 @@ read_array_as_function n fits κs a r s e κs' a' r' s' e' payload place =
     let X = of_array n in
     (e.0 ∙ sym (e'.0 ∙ ap₂ X.read payload place), e.1 ∙ ap (moved_to a.0.now) (sym (e'.1 ∙ ap₂ X.after payload place)))
 
--- ---- a reader made at a position and lent to its read: the answer is what the read finds there, and what the reader's own method answers of such a reader
-pub read_u8_at_says : (κs : _) (a : _) (r : _) (s : _) → made_read_u8.Learnt κs a r s → r ≡ Lent.found of_u8 (made a.0 a.1.0)
+-- ---- a reader made at a position and lent to its read: the answer is what the read finds there with the place after it, and what the reader's own method answers of such a reader, with
+-- ---- the place where it leaves it
+pub read_u8_at_says : (κs : _) (a : _) (r : _) (s : _) → made_read_u8.Learnt κs a r s → r ≡ Lent.whole of_u8 (made a.0 a.1.0)
 read_u8_at_says κs a r s e = e
 
 pub read_u8_at_as_held :
     (κs : _) (a : _) (r : _) (s : _) → made_read_u8.Learnt κs a r s →
     (κs' : _) (a' : _) (r' : _) (s' : _) → held_read_u8.Learnt κs' a' r' s' →
-    a'.0.now ≡ made a.0 a.1.0 → r ≡ r'
-read_u8_at_as_held κs a r s e κs' a' r' s' e' same = e ∙ sym (e'.0 ∙ ap (Lent.found of_u8) same)
+    a'.0.now ≡ made a.0 a.1.0 → r ≡ (r', place_of s'.0.now)
+read_u8_at_as_held κs a r s e κs' a' r' s' e' same =
+    e ∙ sym (ap₂ (λ x h. (x, place_of h)) (e'.0 ∙ ap (Lent.found of_u8) same) (e'.1 ∙ ap (Lent.left of_u8) same))
 
-pub read_u16_le_at_says : (κs : _) (a : _) (r : _) (s : _) → made_read_u16_le.Learnt κs a r s → r ≡ Lent.found of_u16 (made a.0 a.1.0)
+pub read_u16_le_at_says : (κs : _) (a : _) (r : _) (s : _) → made_read_u16_le.Learnt κs a r s → r ≡ Lent.whole of_u16 (made a.0 a.1.0)
 read_u16_le_at_says κs a r s e = e
 
 pub read_u16_le_at_as_held :
     (κs : _) (a : _) (r : _) (s : _) → made_read_u16_le.Learnt κs a r s →
     (κs' : _) (a' : _) (r' : _) (s' : _) → held_read_u16_le.Learnt κs' a' r' s' →
-    a'.0.now ≡ made a.0 a.1.0 → r ≡ r'
-read_u16_le_at_as_held κs a r s e κs' a' r' s' e' same = e ∙ sym (e'.0 ∙ ap (Lent.found of_u16) same)
+    a'.0.now ≡ made a.0 a.1.0 → r ≡ (r', place_of s'.0.now)
+read_u16_le_at_as_held κs a r s e κs' a' r' s' e' same =
+    e ∙ sym (ap₂ (λ x h. (x, place_of h)) (e'.0 ∙ ap (Lent.found of_u16) same) (e'.1 ∙ ap (Lent.left of_u16) same))
 
-pub read_u32_le_at_says : (κs : _) (a : _) (r : _) (s : _) → made_read_u32_le.Learnt κs a r s → r ≡ Lent.found of_u32 (made a.0 a.1.0)
+pub read_u32_le_at_says : (κs : _) (a : _) (r : _) (s : _) → made_read_u32_le.Learnt κs a r s → r ≡ Lent.whole of_u32 (made a.0 a.1.0)
 read_u32_le_at_says κs a r s e = e
 
 pub read_u32_le_at_as_held :
     (κs : _) (a : _) (r : _) (s : _) → made_read_u32_le.Learnt κs a r s →
     (κs' : _) (a' : _) (r' : _) (s' : _) → held_read_u32_le.Learnt κs' a' r' s' →
-    a'.0.now ≡ made a.0 a.1.0 → r ≡ r'
-read_u32_le_at_as_held κs a r s e κs' a' r' s' e' same = e ∙ sym (e'.0 ∙ ap (Lent.found of_u32) same)
+    a'.0.now ≡ made a.0 a.1.0 → r ≡ (r', place_of s'.0.now)
+read_u32_le_at_as_held κs a r s e κs' a' r' s' e' same =
+    e ∙ sym (ap₂ (λ x h. (x, place_of h)) (e'.0 ∙ ap (Lent.found of_u32) same) (e'.1 ∙ ap (Lent.left of_u32) same))
 
-pub read_u64_le_at_says : (κs : _) (a : _) (r : _) (s : _) → made_read_u64_le.Learnt κs a r s → r ≡ Lent.found of_u64 (made a.0 a.1.0)
+pub read_u64_le_at_says : (κs : _) (a : _) (r : _) (s : _) → made_read_u64_le.Learnt κs a r s → r ≡ Lent.whole of_u64 (made a.0 a.1.0)
 read_u64_le_at_says κs a r s e = e
 
 pub read_u64_le_at_as_held :
     (κs : _) (a : _) (r : _) (s : _) → made_read_u64_le.Learnt κs a r s →
     (κs' : _) (a' : _) (r' : _) (s' : _) → held_read_u64_le.Learnt κs' a' r' s' →
-    a'.0.now ≡ made a.0 a.1.0 → r ≡ r'
-read_u64_le_at_as_held κs a r s e κs' a' r' s' e' same = e ∙ sym (e'.0 ∙ ap (Lent.found of_u64) same)
+    a'.0.now ≡ made a.0 a.1.0 → r ≡ (r', place_of s'.0.now)
+read_u64_le_at_as_held κs a r s e κs' a' r' s' e' same =
+    e ∙ sym (ap₂ (λ x h. (x, place_of h)) (e'.0 ∙ ap (Lent.found of_u64) same) (e'.1 ∙ ap (Lent.left of_u64) same))
 
-pub read_array_at_says : (n : ℕ) (fits : Fits w64 n) → (κs : _) (a : _) (r : _) (s : _) → made_read_array.Learnt n fits κs a r s → r ≡ Lent.found (of_array n) (made a.0 a.1.0)
+pub read_array_at_says : (n : ℕ) (fits : Fits w64 n) → (κs : _) (a : _) (r : _) (s : _) → made_read_array.Learnt n fits κs a r s → r ≡ Lent.whole (of_array n) (made a.0 a.1.0)
 read_array_at_says n fits κs a r s e = e
 
 pub read_array_at_as_held : (n : ℕ) (fits : Fits w64 n) →
     (κs : _) (a : _) (r : _) (s : _) → made_read_array.Learnt n fits κs a r s →
     (κs' : _) (a' : _) (r' : _) (s' : _) → held_read_array.Learnt n fits κs' a' r' s' →
-    a'.0.now ≡ made a.0 a.1.0 → r ≡ r'
-read_array_at_as_held n fits κs a r s e κs' a' r' s' e' same = e ∙ sym (e'.0 ∙ ap (Lent.found (of_array n)) same)
+    a'.0.now ≡ made a.0 a.1.0 → r ≡ (r', place_of s'.0.now)
+read_array_at_as_held n fits κs a r s e κs' a' r' s' e' same =
+    e ∙ sym (ap₂ (λ x h. (x, place_of h)) (e'.0 ∙ ap (Lent.found (of_array n)) same) (e'.1 ∙ ap (Lent.left (of_array n)) same))
 
 -- ---- a reader by value: each question says what `PassedOn` takes it to say, and answers what the function on a slice and a position does
 pub remaining_says : (κs : _) (a : _) (r : _) (s : _) → held_remaining.Learnt κs a r s → Passed.Says bytes_left a.0 r

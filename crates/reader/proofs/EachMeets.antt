@@ -213,58 +213,58 @@ decode_receiver_report_meets 𝓤 𝓛 𝓜 𝓡 wired c shown =
 
 -- ---- a reader made at a position and lent: `MadeThenLent`
 abbrev pub read_u8_at_shown : {M : Type 1} (𝓤 : Ura M) → Clauses 𝓤 read_u8_at.ended → Type 1
-read_u8_at_shown 𝓤 c = (κs : Lfts 1) (a : Args read_u8_at.signature κs) (g : (c κs a).ghost) → ent 𝓤 (emp 𝓤) ((c κs a).ensures g (Lent.found of_u8 (made a.0 a.1.0)) (at_exit read_u8_at.ended κs a (tt, (tt, tt))))
+read_u8_at_shown 𝓤 c = (κs : Lfts 1) (a : Args read_u8_at.signature κs) (g : (c κs a).ghost) → ent 𝓤 (emp 𝓤) ((c κs a).ensures g (Lent.whole of_u8 (made a.0 a.1.0)) (at_exit read_u8_at.ended κs a (tt, (tt, tt))))
 
 pub read_u8_at_meets :
     {M : Type 1} (𝓤 : Ura M) (𝓛 : Logic 𝓤) (𝓜 : Model 𝓤 𝓛.H) (𝓡 : Running 𝓤 𝓛.H 𝓜) → Wired 𝓡.env read_u8_at_code.code →
     (c : Clauses 𝓤 read_u8_at.ended) → read_u8_at_shown 𝓤 c → Meets 𝓛 read_u8_at.signature (𝓡.run (𝓡.env read_u8_at_code.name)) (closing 𝓛 read_u8_at.ended c)
 read_u8_at_meets 𝓤 𝓛 𝓜 𝓡 wired c shown =
-    every.meets 𝓛 read_u8_at.ended (λ κs a r e. r ≡ Lent.found of_u8 (made a.0 a.1.0)) c
+    every.meets 𝓛 read_u8_at.ended (λ κs a r e. r ≡ Lent.whole of_u8 (made a.0 a.1.0)) c
     (λ κs a g r ws says. subst (λ x. ent 𝓤 (emp 𝓤) ((c κs a).ensures g x (at_exit read_u8_at.ended κs a (tt, (tt, tt))))) (sym says) (shown κs a g))
     (𝓡.run (𝓡.env read_u8_at_code.name)) (run_framed 𝓤 𝓛.H 𝓜 𝓡 (𝓡.env read_u8_at_code.name)) (read_u8_at_met.met 𝓤 𝓛 𝓜 𝓡 wired)
 
 abbrev pub read_u16_le_at_shown : {M : Type 1} (𝓤 : Ura M) → Clauses 𝓤 read_u16_le_at.ended → Type 1
-read_u16_le_at_shown 𝓤 c = (κs : Lfts 1) (a : Args read_u16_le_at.signature κs) (g : (c κs a).ghost) → ent 𝓤 (emp 𝓤) ((c κs a).ensures g (Lent.found of_u16 (made a.0 a.1.0)) (at_exit read_u16_le_at.ended κs a (tt, (tt, tt))))
+read_u16_le_at_shown 𝓤 c = (κs : Lfts 1) (a : Args read_u16_le_at.signature κs) (g : (c κs a).ghost) → ent 𝓤 (emp 𝓤) ((c κs a).ensures g (Lent.whole of_u16 (made a.0 a.1.0)) (at_exit read_u16_le_at.ended κs a (tt, (tt, tt))))
 
 pub read_u16_le_at_meets :
     {M : Type 1} (𝓤 : Ura M) (𝓛 : Logic 𝓤) (𝓜 : Model 𝓤 𝓛.H) (𝓡 : Running 𝓤 𝓛.H 𝓜) → Wired 𝓡.env read_u16_le_at_code.code →
     (c : Clauses 𝓤 read_u16_le_at.ended) → read_u16_le_at_shown 𝓤 c → Meets 𝓛 read_u16_le_at.signature (𝓡.run (𝓡.env read_u16_le_at_code.name)) (closing 𝓛 read_u16_le_at.ended c)
 read_u16_le_at_meets 𝓤 𝓛 𝓜 𝓡 wired c shown =
-    every.meets 𝓛 read_u16_le_at.ended (λ κs a r e. r ≡ Lent.found of_u16 (made a.0 a.1.0)) c
+    every.meets 𝓛 read_u16_le_at.ended (λ κs a r e. r ≡ Lent.whole of_u16 (made a.0 a.1.0)) c
     (λ κs a g r ws says. subst (λ x. ent 𝓤 (emp 𝓤) ((c κs a).ensures g x (at_exit read_u16_le_at.ended κs a (tt, (tt, tt))))) (sym says) (shown κs a g))
     (𝓡.run (𝓡.env read_u16_le_at_code.name)) (run_framed 𝓤 𝓛.H 𝓜 𝓡 (𝓡.env read_u16_le_at_code.name)) (read_u16_le_at_met.met 𝓤 𝓛 𝓜 𝓡 wired)
 
 abbrev pub read_u32_le_at_shown : {M : Type 1} (𝓤 : Ura M) → Clauses 𝓤 read_u32_le_at.ended → Type 1
-read_u32_le_at_shown 𝓤 c = (κs : Lfts 1) (a : Args read_u32_le_at.signature κs) (g : (c κs a).ghost) → ent 𝓤 (emp 𝓤) ((c κs a).ensures g (Lent.found of_u32 (made a.0 a.1.0)) (at_exit read_u32_le_at.ended κs a (tt, (tt, tt))))
+read_u32_le_at_shown 𝓤 c = (κs : Lfts 1) (a : Args read_u32_le_at.signature κs) (g : (c κs a).ghost) → ent 𝓤 (emp 𝓤) ((c κs a).ensures g (Lent.whole of_u32 (made a.0 a.1.0)) (at_exit read_u32_le_at.ended κs a (tt, (tt, tt))))
 
 pub read_u32_le_at_meets :
     {M : Type 1} (𝓤 : Ura M) (𝓛 : Logic 𝓤) (𝓜 : Model 𝓤 𝓛.H) (𝓡 : Running 𝓤 𝓛.H 𝓜) → Wired 𝓡.env read_u32_le_at_code.code →
     (c : Clauses 𝓤 read_u32_le_at.ended) → read_u32_le_at_shown 𝓤 c → Meets 𝓛 read_u32_le_at.signature (𝓡.run (𝓡.env read_u32_le_at_code.name)) (closing 𝓛 read_u32_le_at.ended c)
 read_u32_le_at_meets 𝓤 𝓛 𝓜 𝓡 wired c shown =
-    every.meets 𝓛 read_u32_le_at.ended (λ κs a r e. r ≡ Lent.found of_u32 (made a.0 a.1.0)) c
+    every.meets 𝓛 read_u32_le_at.ended (λ κs a r e. r ≡ Lent.whole of_u32 (made a.0 a.1.0)) c
     (λ κs a g r ws says. subst (λ x. ent 𝓤 (emp 𝓤) ((c κs a).ensures g x (at_exit read_u32_le_at.ended κs a (tt, (tt, tt))))) (sym says) (shown κs a g))
     (𝓡.run (𝓡.env read_u32_le_at_code.name)) (run_framed 𝓤 𝓛.H 𝓜 𝓡 (𝓡.env read_u32_le_at_code.name)) (read_u32_le_at_met.met 𝓤 𝓛 𝓜 𝓡 wired)
 
 abbrev pub read_u64_le_at_shown : {M : Type 1} (𝓤 : Ura M) → Clauses 𝓤 read_u64_le_at.ended → Type 1
-read_u64_le_at_shown 𝓤 c = (κs : Lfts 1) (a : Args read_u64_le_at.signature κs) (g : (c κs a).ghost) → ent 𝓤 (emp 𝓤) ((c κs a).ensures g (Lent.found of_u64 (made a.0 a.1.0)) (at_exit read_u64_le_at.ended κs a (tt, (tt, tt))))
+read_u64_le_at_shown 𝓤 c = (κs : Lfts 1) (a : Args read_u64_le_at.signature κs) (g : (c κs a).ghost) → ent 𝓤 (emp 𝓤) ((c κs a).ensures g (Lent.whole of_u64 (made a.0 a.1.0)) (at_exit read_u64_le_at.ended κs a (tt, (tt, tt))))
 
 pub read_u64_le_at_meets :
     {M : Type 1} (𝓤 : Ura M) (𝓛 : Logic 𝓤) (𝓜 : Model 𝓤 𝓛.H) (𝓡 : Running 𝓤 𝓛.H 𝓜) → Wired 𝓡.env read_u64_le_at_code.code →
     (c : Clauses 𝓤 read_u64_le_at.ended) → read_u64_le_at_shown 𝓤 c → Meets 𝓛 read_u64_le_at.signature (𝓡.run (𝓡.env read_u64_le_at_code.name)) (closing 𝓛 read_u64_le_at.ended c)
 read_u64_le_at_meets 𝓤 𝓛 𝓜 𝓡 wired c shown =
-    every.meets 𝓛 read_u64_le_at.ended (λ κs a r e. r ≡ Lent.found of_u64 (made a.0 a.1.0)) c
+    every.meets 𝓛 read_u64_le_at.ended (λ κs a r e. r ≡ Lent.whole of_u64 (made a.0 a.1.0)) c
     (λ κs a g r ws says. subst (λ x. ent 𝓤 (emp 𝓤) ((c κs a).ensures g x (at_exit read_u64_le_at.ended κs a (tt, (tt, tt))))) (sym says) (shown κs a g))
     (𝓡.run (𝓡.env read_u64_le_at_code.name)) (run_framed 𝓤 𝓛.H 𝓜 𝓡 (𝓡.env read_u64_le_at_code.name)) (read_u64_le_at_met.met 𝓤 𝓛 𝓜 𝓡 wired)
 
 abbrev pub read_array_at_shown : {M : Type 1} (𝓤 : Ura M) (n : ℕ) → Clauses 𝓤 (read_array_at.ended (number n)) → Type 1
-read_array_at_shown 𝓤 n c = (κs : Lfts 2) (a : Args (read_array_at.signature (number n)) κs) (g : (c κs a).ghost) → ent 𝓤 (emp 𝓤) ((c κs a).ensures g (Lent.found (of_array n) (made a.0 a.1.0)) (at_exit (read_array_at.ended (number n)) κs a (tt, (tt, tt))))
+read_array_at_shown 𝓤 n c = (κs : Lfts 2) (a : Args (read_array_at.signature (number n)) κs) (g : (c κs a).ghost) → ent 𝓤 (emp 𝓤) ((c κs a).ensures g (Lent.whole (of_array n) (made a.0 a.1.0)) (at_exit (read_array_at.ended (number n)) κs a (tt, (tt, tt))))
 
 pub read_array_at_meets :
     {M : Type 1} (𝓤 : Ura M) (𝓛 : Logic 𝓤) (𝓜 : Model 𝓤 𝓛.H) (𝓡 : Running 𝓤 𝓛.H 𝓜) → Wired 𝓡.env read_array_at_code.code → (n : ℕ) → n < 2 ^ 63 →
     (c : Clauses 𝓤 (read_array_at.ended (number n))) → read_array_at_shown 𝓤 n c → Meets 𝓛 (read_array_at.signature (number n)) (𝓡.run (𝓡.env (read_array_at_code.name (sized n)))) (closing 𝓛 (read_array_at.ended (number n)) c)
 read_array_at_meets 𝓤 𝓛 𝓜 𝓡 wired n h c shown =
     every.meets_granted 𝓛 (read_array_at.ended (number n))
-    (λ κs a. (read_array_at.clauses (number n) 𝓛 𝓜.mem 𝓡.returns κs a).requires tt) (λ κs a. granted 𝓤 (⊑_static _) n h) (λ κs a r e. r ≡ Lent.found (of_array n) (made a.0 a.1.0)) c
+    (λ κs a. (read_array_at.clauses (number n) 𝓛 𝓜.mem 𝓡.returns κs a).requires tt) (λ κs a. granted 𝓤 (⊑_static _) n h) (λ κs a r e. r ≡ Lent.whole (of_array n) (made a.0 a.1.0)) c
     (λ κs a g r ws says. subst (λ x. ent 𝓤 (emp 𝓤) ((c κs a).ensures g x (at_exit (read_array_at.ended (number n)) κs a (tt, (tt, tt))))) (sym says) (shown κs a g))
     (𝓡.run (𝓡.env (read_array_at_code.name (sized n)))) (run_framed 𝓤 𝓛.H 𝓜 𝓡 (𝓡.env (read_array_at_code.name (sized n)))) (read_array_at_met.met 𝓤 𝓛 𝓜 𝓡 wired n (fitting n h))
 

@@ -19,6 +19,10 @@ module _ (X : Read) where
   abbrev pub left : Reader → Reader
   left h = moved_to h (X.after h.buf.now (place_of h))
 
+  -- and both: the answer, and the place where the reader stands then
+  abbrev pub whole : Reader → X.Answer × Place
+  whole h = (found h, X.after h.buf.now (place_of h))
+
   -- what a method on a lent reader is to meet: a fact of the reader before, the answer and the reader after
   abbrev pub Contract : Type 1
   Contract = Reader → X.Answer → Reader → Type 0

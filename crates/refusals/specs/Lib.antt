@@ -2,3 +2,4 @@
 pub mod Questions
 pub mod Ranges
 pub mod Answers
+pub mod Texts

@@ -1,7 +1,8 @@
 // The refusal of a call, by the question that is answered no.
 
-ghost use Rattle.std.specs.Prelude.{◌≡◌, Ok, Err};
+ghost use Rattle.std.specs.Prelude.{◌≡◌, Ok, Err, Some};
 ghost use Rattle.refusals.specs.Answers.{number, Decodes};
+ghost use Rattle.refusals.specs.Texts.{refusal_text, no_question_text};
 
 use std::error::Error;
 use std::fmt;
@@ -33,8 +34,8 @@ impl From<Refusal> for u8 {
 // "A refusal returns its number and the state as given": the error of a call that is handed a record by value. A constructor, given none, hands back the default one.
 #[derive(Clone, Copy)]
 pub struct Refused<S> {
-    pub refusal: Refusal,
     pub state: S,
+    pub refusal: Refusal,
 }
 
 // A number that is no question's.
@@ -66,6 +67,8 @@ impl TryFrom<u8> for Refusal {
 
 // By hand: the kit's `thiserror` would be one crate more, for the same lines.
 impl fmt::Display for Refusal {
+    ghost output = { λ refusal. Some (refusal_text refusal) };
+
     fn fmt<W: fmt::Write>(&self, f: &mut fmt::Formatter<W>) -> fmt::Result {
         f.write_str(match self {
             Refusal::State => "the state does not keep its rule",
@@ -86,6 +89,8 @@ impl fmt::Display for Refusal {
 impl Error for Refusal {}
 
 impl fmt::Display for NoQuestion {
+    ghost output = { λ e. Some (no_question_text e) };
+
     fn fmt<W: fmt::Write>(&self, f: &mut fmt::Formatter<W>) -> fmt::Result {
         write!(f, "no question has the number {}", self.0)
     }

@@ -167,6 +167,19 @@ impl Reported for &[u8] {
     }
 }
 
+// One after the other.
+impl<T: Reported, U: Reported> Reported for (T, U) {
+    fn width() -> usize {
+        T::width().saturating_add(U::width())
+    }
+
+    fn report(self, reply: &mut Reply) {
+        let (first, second) = self;
+        reply.put(first);
+        reply.put(second);
+    }
+}
+
 // A call that may refuse: the refusal, 0 for none, and the value.
 impl<T: Reported> Reported for Result<T, Refusal> {
     fn width() -> usize {

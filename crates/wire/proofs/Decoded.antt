@@ -1,13 +1,12 @@
 -- What is decoded, as a result, by the length answer.
 use Prim.Native.Nat.{ℕ}
-use mathlib.Core.Path.{◌≡◌, refl, sym, ap, ◌∙◌}
+use mathlib.Core.Path.{◌≡◌, refl, ap}
 use mathlib.Core.Bool.{Bool, true, false, cond}
 use mathlib.Core.List.{List}
-use lib.ListN.{drop}
+use lib.ListN.{length, drop}
 use Rattle.std.specs.Prelude.{Result, Ok, Err}
 use Rattle.codec.specs.LittleEndian.{field_at}
-use Rattle.codec.specs.Reading.{Length, within, too_short, length_answer, read_as, read_u16, values_of, by_length}
-use Rattle.codec.specs.declared.Place.{Place}
+use Rattle.codec.specs.Reading.{Length, within, needed_for, too_short, length_answer, read_as, values_of, by_length}
 use Rattle.codec.specs.declared.reader.TooShort.{TooShort}
 use Rattle.wire.specs.Payload.{message_taken}
 use Rattle.wire.specs.SenderReport as Sender
@@ -65,29 +64,14 @@ module _ (s : List ℕ) (pos : ℕ) where
   receiver_short k e = rw (← short_is s pos 67 k e, receiver_by (length_answer s pos 67) (Receiver.report_in (drop pos s)), e) refl
 
 -- ---- the one field of a notification
-abbrev front : Place
-front = record { pos = 0 }
-
-abbrev Read : Type 0
-Read = Result PathMtuNotification TooShort
-
-field_read : (a : Length) (f x : ℕ) → read_as a f ≡ Ok x → ◌≡◌ {A = Read} (Ok (PathMtu.notification x)) (read_as a (PathMtu.notification f))
-unfolding read_as
-field_read (Ok enough) f x e = let same : f ≡ x = cc in rw same refl
-field_read (Err short) f x e = absurd cc
-
-field_short : (a : Length) (f : ℕ) (k : TooShort) → read_as a f ≡ Err k → ◌≡◌ {A = Read} (Err k) (read_as a (PathMtu.notification f))
-unfolding read_as
-field_short (Ok enough) f k e = absurd cc
-field_short (Err short) f k e = cc
-
 module _ (s : List ℕ) where
-  pub notification_read : (x : ℕ) → read_u16 s front ≡ Ok x → ◌≡◌ {A = Read} (Ok (PathMtu.notification x)) (PathMtu.taken (PathMtu.decoded s))
-  unfolding PathMtu.decoded read_u16
-  notification_read x e =
-      field_read (length_answer s 0 2) (field_at s 0 2) x e ∙ sym (notification_by (length_answer s 0 2) (PathMtu.notification (field_at s 0 2)))
+  pub notification_read : length_answer s 0 2 ≡ Ok tt →
+      ◌≡◌ {A = Result PathMtuNotification TooShort} (Ok (PathMtu.notification (field_at s 0 2))) (PathMtu.taken (PathMtu.decoded s))
+  unfolding PathMtu.decoded read_as
+  notification_read e =
+      rw (notification_by (length_answer s 0 2) (PathMtu.notification (field_at s 0 2)), e) refl
 
-  pub notification_short : (k : TooShort) → read_u16 s front ≡ Err k → ◌≡◌ {A = Read} (Err k) (PathMtu.taken (PathMtu.decoded s))
-  unfolding PathMtu.decoded read_u16
-  notification_short k e =
-      field_short (length_answer s 0 2) (field_at s 0 2) k e ∙ sym (notification_by (length_answer s 0 2) (PathMtu.notification (field_at s 0 2)))
+  pub notification_short : (k : TooShort) → length_answer s 0 2 ≡ Err k →
+      ◌≡◌ {A = Result PathMtuNotification TooShort} (Err (record { needed = 2; given = length s })) (PathMtu.taken (PathMtu.decoded s))
+  unfolding PathMtu.decoded read_as needed_for
+  notification_short k e = rw (← short_is s 0 2 k e, notification_by (length_answer s 0 2) (PathMtu.notification (field_at s 0 2)), e) refl

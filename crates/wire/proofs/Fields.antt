@@ -1,9 +1,9 @@
 -- A part of a payload, a field of two payloads that are alike, and the bytes of fields that stand one after the other.
-use Prim.Native.Nat.{ℕ, ◌+◌, ◌≤◌}
+use Prim.Native.Nat.{ℕ, ◌+◌, ◌-◌, ◌≤◌}
 use mathlib.Core.Path.{◌≡◌, sym, ap, ap₂, ◌∙◌}
 use mathlib.Core.List.{List, ◌++◌, append_assoc}
 use lib.ListN.{length, take, drop, length-drop}
-use lib.Seq.{take-add, drop-drop}
+use lib.Seq.{take-add, take_all, drop-drop}
 use native.Mathlib.Omega.{arith}
 use Rattle.codec.specs.LittleEndian.{le_bytes, field_at}
 use Rattle.std.specs.Prelude.{Ok}
@@ -12,9 +12,16 @@ use Rattle.codec.proofs.Lengths.{room}
 use Rattle.codec.proofs.Widths.{field_here, read_alike, bytes_read}
 use Rattle.wire.specs.Payload.{AlikeOn, Bytes}
 
--- what is left of a payload is as long as its length answer has shown
-pub part_long : (s : List ℕ) (pos n : ℕ) → length_answer s pos n ≡ Ok tt → n ≤ length (drop pos s)
-part_long s pos n e = omega (arith, length-drop pos s, room s pos n e)
+-- `&s[pos..]` is the payload without its first bytes
+pub part_whole : (s : List ℕ) (pos : ℕ) → take (length s - pos) (drop pos s) ≡ drop pos s
+part_whole s pos = take_all (length s - pos) (drop pos s) (omega (arith, length-drop pos s))
+
+-- and it is as long as the length answer has shown
+pub rest_long : (s : List ℕ) (pos n : ℕ) → length_answer s pos n ≡ Ok tt → n ≤ length (drop pos s)
+rest_long s pos n e = omega (arith, length-drop pos s, room s pos n e)
+
+pub part_long : (s : List ℕ) (pos n : ℕ) → length_answer s pos n ≡ Ok tt → n ≤ length (take (length s - pos) (drop pos s))
+part_long s pos n e = rw (part_whole s pos) (rest_long s pos n e)
 
 -- a field that lies where two payloads are alike
 pub field_alike : (s t : List ℕ) (from to at n : ℕ) → AlikeOn s t from to → from ≤ at → at + n ≤ to → to ≤ length s → to ≤ length t → field_at s at n ≡ field_at t at n

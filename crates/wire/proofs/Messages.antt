@@ -2,19 +2,23 @@
 use Prim.Native.Nat.{ℕ, ◌+◌, ◌-◌, ◌≤◌, ◌<◌}
 use mathlib.Core.Path.{◌≡◌, sym, ap, ◌∙◌}
 use mathlib.Core.List.{List, ◌++◌}
-use lib.ListN.{length, get_or, drop, length-append, length-drop, get_or-append}
-use lib.Seq.{get_or-drop}
+use lib.ListN.{length, get_or, take, drop, length-append, length-drop, get_or-append}
+use lib.Seq.{take-length, get_or-drop}
 use native.Mathlib.Omega.{arith}
 use borrow.Author.Tests.{le-leb, lt-leb}
 use Rattle.std.specs.Prelude.{Result, Ok, Err}
+use Rattle.std.specs.Int.{w16, to_le_bytes}
 use Rattle.refusals.specs.Answers.{answered, passed, numbered}
 use Rattle.refusals.specs.declared.refusal.Refusal.{Refusal}
 use Rattle.refusals.specs.declared.refusal.Refusal.TheVariants.{OutputBuffer}
 use Rattle.codec.specs.LittleEndian.{le_bytes}
+use Rattle.codec.proofs.Parts.{bytes_16}
 use Rattle.wire.specs.SenderReport as Sender
 use Rattle.wire.specs.ReceiverReport as Receiver
+use Rattle.wire.specs.PathMtu as Notification
 use Rattle.wire.specs.declared.sender_report.SenderReport.{SenderReport}
 use Rattle.wire.specs.declared.receiver_report.ReceiverReport.{ReceiverReport}
+use Rattle.wire.specs.declared.path_mtu.PathMtuNotification.{PathMtuNotification}
 use Rattle.wire.specs.Payload.{room_answer, written_into, AlikeOn}
 
 -- ---- the answer: nothing, or the refusal 6
@@ -34,6 +38,10 @@ untouched out message h = simp (lt-leb _ _ h)
 pub written : (out message : List ℕ) → length message ≤ length out → message ++ drop (length message) out ≡ written_into out message
 unfolding written_into
 written out message h = simp (le-leb _ _ h)
+
+-- a block that holds the message, copied over the buffer's first bytes
+pub copied : (block out message : List ℕ) → block ≡ message → length message ≤ length out → take (length block) block ++ drop (length block) out ≡ written_into out message
+copied block out message e h = rw (e, take-length message) (written out message h)
 
 -- ---- a sender's report of 48 bytes
 module _ (out : List ℕ) where
@@ -66,6 +74,22 @@ module _ (out : List ℕ) where
   pub receiver_unwritten : (r : ReceiverReport) → length out < 68 → out ≡ Receiver.encoded_into out r
   unfolding Receiver.encoded le_bytes
   receiver_unwritten r h = untouched out (Receiver.encoded r) h
+
+-- ---- a notification of 2 bytes
+module _ (out : List ℕ) where
+  pub notification_room : 2 ≤ length out → ◌≡◌ {A = Result (Unit {0}) Refusal} (Ok tt) (passed (Notification.encode_answer out))
+  notification_room h = room 2 out h
+
+  pub notification_no_room : length out < 2 → ◌≡◌ {A = Result (Unit {0}) Refusal} (Err OutputBuffer) (passed (Notification.encode_answer out))
+  notification_no_room h = no_room 2 out h
+
+  pub notification_written : (n : PathMtuNotification) → 2 ≤ length out → to_le_bytes w16 n.path_mtu ++ drop 2 out ≡ Notification.encoded_into out n
+  unfolding Notification.encoded le_bytes
+  notification_written n h = rw (bytes_16 n.path_mtu) (written out (Notification.encoded n) h)
+
+  pub notification_unwritten : (n : PathMtuNotification) → length out < 2 → out ≡ Notification.encoded_into out n
+  unfolding Notification.encoded le_bytes
+  notification_unwritten n h = untouched out (Notification.encoded n) h
 
 -- ---- the payload of a message in a buffer: its own bytes, and what the buffer held past them
 pub payload_alike : (out message : List ℕ) (from : ℕ) → length message ≤ length out → AlikeOn (drop 1 message) (drop 1 (written_into out message)) from (length message - 1)

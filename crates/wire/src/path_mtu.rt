@@ -3,9 +3,9 @@ ghost use Rattle.std.specs.Prelude.{◌≡◌};
 ghost use Rattle.refusals.specs.Answers.{passed};
 ghost use Rattle.wire.specs.PathMtu.{notification, decoded, taken, encode_answer, encoded_into};
 
+use crate::payload::u16_in;
 use codec::Place;
-use codec::reader::{TooShort, read_u16_le};
-use codec::writer::write_u16_le;
+use codec::reader::{TooShort, require};
 use refusals::refusal::Refusal;
 
 #[derive(Clone, Copy)]
@@ -21,19 +21,31 @@ impl PathMtuNotification {
     }
 
     // Writes 2 bytes, or refuses and writes nothing.
-    #[tactic(auto, unfolding(crate::specs::Payload::room_answer, crate::specs::Payload::written_into, crate::specs::PathMtu::encoded, codec::specs::Writing::written, codec::specs::LittleEndian::with_field, codec::specs::LittleEndian::stored))]
+    #[tactic(auto, using(crate::proofs::Messages::notification_room, crate::proofs::Messages::notification_no_room, crate::proofs::Messages::notification_written, crate::proofs::Messages::notification_unwritten))]
     pub fn encode(self, out: &mut [u8]) -> Result<(), Refusal>
         ensures answer { result ≡ passed (encode_answer out.old) }
         ensures bytes { out.new ≡ encoded_into out.old self }
     {
-        write_u16_le(out, &mut Place { pos: 0 }, self.path_mtu)
+        let Some(place) = out.first_chunk_mut() else {
+            return Err(Refusal::OutputBuffer);
+        };
+        *place = self.path_mtu.to_le_bytes();
+        Ok(())
     }
 
-    #[tactic(auto, using(crate::proofs::Decoded::notification_read, crate::proofs::Decoded::notification_short))]
+    #[tactic(auto, using(crate::proofs::Decoded::notification_read, crate::proofs::Decoded::notification_short, codec::proofs::Lengths::room))]
     pub fn decode(body: &[u8]) -> Result<Self, TooShort>
         ensures { result ≡ taken (decoded body.now) }
     {
-        let path_mtu = read_u16_le(body, &mut Place { pos: 0 })?;
-        Ok(Self { path_mtu })
+        // let .. else and no `?`: the rules of the project name this form here.
+        let Ok(()) = require(body, Place { pos: 0 }, 2) else {
+            return Err(TooShort {
+                needed: 2,
+                given: body.len(),
+            });
+        };
+        Ok(Self {
+            path_mtu: u16_in(body, 0),
+        })
     }
 }

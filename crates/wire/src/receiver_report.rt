@@ -73,7 +73,7 @@ pub fn no_report() -> ReceiverReport
 }
 
 // The report from a position of the payload on; the needed length is counted from the payload's start.
-#[tactic(auto, using(crate::proofs::Decoded::receiver_read, crate::proofs::Decoded::receiver_short, crate::proofs::Fields::part_long))]
+#[tactic(auto, using(crate::proofs::Decoded::receiver_read, crate::proofs::Decoded::receiver_short, crate::proofs::Fields::rest_long))]
 pub fn decode_at(payload: &[u8], pos: usize) -> Result<ReceiverReport, TooShort>
     ensures { result ≡ taken (decoded_at payload.now pos) }
 {
@@ -114,7 +114,7 @@ fn report_in(s: &[u8]) -> ReceiverReport
 }
 
 // The report's bytes. Those that hold no field are 0.
-#[tactic(auto, unfolding(crate::specs::ReceiverReport::encoded, codec::specs::LittleEndian::with_field, codec::specs::LittleEndian::stored, codec::specs::LittleEndian::le_bytes))]
+#[tactic(auto, using(crate::proofs::Blocks::receiver_block))]
 fn block_of(r: ReceiverReport) -> [u8; 68]
     ensures { result ≡ encoded r }
 {

@@ -62,7 +62,7 @@ pub fn no_report() -> SenderReport
 
 // The report from a position of the payload on; the needed length is counted from the payload's start. receiver_report.rt has functions of these names too: they differ
 // in each length, field and definition, so a trait would hold all of it again.
-#[tactic(auto, using(crate::proofs::Decoded::sender_read, crate::proofs::Decoded::sender_short, crate::proofs::Fields::part_long))]
+#[tactic(auto, using(crate::proofs::Decoded::sender_read, crate::proofs::Decoded::sender_short, crate::proofs::Fields::rest_long))]
 pub fn decode_at(payload: &[u8], pos: usize) -> Result<SenderReport, TooShort>
     ensures { result ≡ taken (decoded_at payload.now pos) }
 {
@@ -95,7 +95,7 @@ fn report_in(s: &[u8]) -> SenderReport
 }
 
 // The report's bytes. Those that hold no field are 0.
-#[tactic(auto, unfolding(crate::specs::SenderReport::encoded, codec::specs::LittleEndian::with_field, codec::specs::LittleEndian::stored, codec::specs::LittleEndian::le_bytes))]
+#[tactic(auto, using(crate::proofs::Blocks::sender_block))]
 fn block_of(r: SenderReport) -> [u8; 48]
     ensures { result ≡ encoded r }
 {

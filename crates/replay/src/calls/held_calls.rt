@@ -3,7 +3,7 @@ use crate::arguments::Arguments;
 use crate::calls::Rooms;
 use crate::reply::Reply;
 use codec::reader::needed_for;
-use reader::{Reader, reads, reports};
+use reader::{reads, reports};
 use wire::{receiver_report, sender_report};
 
 pub fn answer(
@@ -14,9 +14,8 @@ pub fn answer(
 ) -> Option<()> {
     match call {
         161..=167 => {
-            let at = args.take()?;
-            let buf = args.list(&mut rooms.buffer)?;
-            read(call, Reader { buf, at }, reply);
+            let pos = args.take()?;
+            read(call, args.list(&mut rooms.buffer)?, pos, reply);
         }
         168 => reply.put(reports::decode_sender_report(args.list(&mut rooms.buffer)?)),
         169 => reply.put(reports::decode_receiver_report(args.list(&mut rooms.buffer)?)),
@@ -35,16 +34,14 @@ pub fn answer(
     Some(())
 }
 
-fn read(call: u64, from: Reader<'_>, reply: &mut Reply) {
-    let mut reader = from;
+fn read(call: u64, payload: &[u8], pos: usize, reply: &mut Reply) {
     match call {
-        161 => reply.put(reader.read_u8()),
-        162 => reply.put(reader.read_u16_le()),
-        163 => reply.put(reader.read_u32_le()),
-        164 => reply.put(reader.read_u64_le()),
-        165 => reply.put(reader.read_array::<2>()),
-        166 => reply.put(reader.read_array::<4>()),
-        _ => reply.put(reader.read_array::<8>()),
+        161 => reply.put(reads::read_u8_at(payload, pos)),
+        162 => reply.put(reads::read_u16_le_at(payload, pos)),
+        163 => reply.put(reads::read_u32_le_at(payload, pos)),
+        164 => reply.put(reads::read_u64_le_at(payload, pos)),
+        165 => reply.put(reads::read_array_at::<2>(payload, pos)),
+        166 => reply.put(reads::read_array_at::<4>(payload, pos)),
+        _ => reply.put(reads::read_array_at::<8>(payload, pos)),
     }
-    reply.put(reader.at);
 }

@@ -48,7 +48,7 @@ fn read(call: u64, payload: &[u8], from: Place, n: usize, reply: &mut Reply) {
         108 => reply.put(at_place::read_u64_le(payload, &mut at)),
         109 => {
             let span = at_place::read_bytes(payload, &mut at, n);
-            reply.put(span.map(|span| payload.get(span).unwrap_or(&[])));
+            reply.put(span.map(|span| payload.get(span.start..span.end).unwrap_or(&[])));
         }
         110 => reply.put(at_place::read_array::<2>(payload, &mut at)),
         111 => reply.put(at_place::read_array::<4>(payload, &mut at)),

@@ -34,9 +34,9 @@ returns-then-finds_stale c =
     rw (stale_is a.self a.rr a.our_timestamp_ms a.now_ms asked (sym c.finds_stale.ensures ∙ c.if-finds_stale.true))
     (λ i. Ok (c.stale_report-outcome.ensures.state i, c.stale_report-outcome.ensures.answer i))
 
-pub returns-else-finds_stale : goal.returns-else-finds_stale
+pub returns : goal.returns
 unfolding counted saved_in settled_with
-returns-else-finds_stale c =
+returns c =
     let a = c.args in
     let asked = past (process_refusal a.self a.now_ms) a.self c.in_ok-admit_report.field-0 c.in_ok-admit_report.ensures in
     rw (newer_is a.self a.rr a.our_timestamp_ms a.now_ms asked (sym c.finds_stale.ensures ∙ c.if-finds_stale.false))
